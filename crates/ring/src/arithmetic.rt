@@ -38,7 +38,10 @@ pub(super) fn sum_of(k: Coordinates, a: Element, b: Element) -> Element
     ensures { λ r. ⌜ r ≡ element k (ops k .add (value k a) (value k b)) ⌝ }
 {
     match k {
-        Coordinates::One => Element { x: plus(a.x, b.x), y: 0 },
+        Coordinates::One => Element {
+            x: plus(a.x, b.x),
+            y: 0,
+        },
         Coordinates::Two(_, _) => Element {
             x: plus(a.x, b.x),
             y: plus(a.y, b.y),
@@ -64,7 +67,10 @@ pub(super) fn product_of(k: Coordinates, a: Element, b: Element) -> Element
     ensures { λ r. ⌜ r ≡ element k (ops k .mul (value k a) (value k b)) ⌝ }
 {
     match k {
-        Coordinates::One => Element { x: times(a.x, b.x), y: 0 },
+        Coordinates::One => Element {
+            x: times(a.x, b.x),
+            y: 0,
+        },
         Coordinates::Two(s, t) => product_two(s, t, a, b),
     }
 }
