@@ -5,3 +5,5 @@ pub mod Quote
 pub mod Integers
 pub mod Quadratic
 pub mod Gcd
+pub mod Floor
+pub mod Once

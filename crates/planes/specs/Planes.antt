@@ -1,0 +1,73 @@
+-- The rings of pairs x + yθ with θ² = −1 + tθ, for t = 0 and t = −1.
+use mathlib.Core.Bool.{Bool, _&&_}
+use mathlib.Core.List.{List, [], _∷_, map}
+use Prim.Native.Nat.{ℕ, zero, suc, _+_, _*_, _/_, _%_}
+use lib.Dec.{eqb}
+use lib.IntN.{ℤ, pos, negsuc, natAbs}
+use lib.Signed.{leZ, ltZ}
+use Rattle.std.specs.Iters.{counting}
+use Rattle.std.specs.shelf.Lists.{kept-by}
+use Rattle.algebra.specs.Integers.{ℤ-ops}
+use Rattle.algebra.specs.Divisors.{gcd}
+use Rattle.algebra.specs.Quadratic.{Quad, norm-form}
+use Rattle.ring.specs.declared.elements.Coordinates.{Coordinates}
+use Rattle.ring.specs.declared.elements.Coordinates.the-variants.{Two}
+use Rattle.ring.specs.Meaning.{Meaning}
+use Rattle.planes.specs.declared.Plane.{Plane}
+use Rattle.planes.specs.declared.Plane.the-variants.{Square, Hexagonal}
+
+abbrev pub trace : Plane → ℤ
+trace Square = pos 0
+trace Hexagonal = negsuc 0
+
+abbrev pub axes : Plane → Coordinates
+axes p = Two (negsuc 0) (trace p)
+
+abbrev pub pair : ℤ → ℤ → Quad ℤ
+pair x y = record { re = x; im = y }
+
+-- x² + y² in the square plane, x² − xy + y² in the hexagonal one
+abbrev pub norm : Plane → Quad ℤ → ℕ
+norm p z = natAbs (norm-form ℤ-ops (negsuc 0) (trace p) z)
+
+-- the canonical elements but 0 lie in one sector: a fourth or a sixth of the plane
+abbrev pub sector : Plane → Quad ℤ → Bool
+sector Square z = ltZ (pos 0) (z .re) && leZ (pos 0) (z .im)
+sector Hexagonal z = leZ (pos 0) (z .im) && ltZ (z .im) (z .re)
+
+-- the points with x from 1 to w, row after row from y = 0
+abbrev pub point : ℕ → ℕ → Quad ℤ
+point w i = pair (pos (1 + i % w)) (pos (i / w))
+
+abbrev pub canonical-of : Plane → ℕ → Quad ℤ → Bool
+canonical-of p n z = sector p z && eqb (norm p z) n
+
+-- no coordinate of an element of norm n exceeds this
+abbrev pub span : ℕ → ℕ
+span n = n / 3 + 1
+
+-- the points with x from 1 to w and y from 0 to w
+abbrev pub grid : ℕ → List (Quad ℤ)
+grid w = map (point w) (counting 0 ((w + 1) * w))
+
+abbrev pub canonical : Plane → ℕ → List (Quad ℤ)
+canonical p zero = pair (pos 0) (pos 0) ∷ []
+canonical p (suc n) = kept-by (canonical-of p (suc n)) (grid (span (suc n)))
+
+-- the greatest common divisor of the coordinates
+abbrev pub content : Quad ℤ → ℕ
+content m = gcd (natAbs (m .re)) (natAbs (m .im))
+
+-- the least whole number above 0 that m divides
+abbrev pub width : Plane → Quad ℤ → ℕ
+width p m = norm p m / content m
+
+-- u + vθ with u below the width and v below the content; the number is v times the width, plus u
+abbrev pub residues : Plane → Quad ℤ → List (Quad ℤ)
+residues p m = map (λ i. pair (pos (i % width p m)) (pos (i / width p m))) (counting 0 (norm p m))
+
+abbrev pub plane : Plane → Meaning
+plane p = record {
+  coordinates = axes p;
+  euclidean = record { norm = norm p; canonical = canonical p; residues = residues p };
+}
