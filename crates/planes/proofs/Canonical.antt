@@ -50,7 +50,7 @@ sector-natural p z h = go p (z .re) (z .im) h
     go Hexagonal (negsuc x) y s = absurd (grind (arith, ints))
 
 -- the points of the grid stand in it once
-point-at : (n x y : ℕ) → x < n → point n (y * n + x) ≡ pair (pos (suc x)) (pos y)
+pub point-at : (n x y : ℕ) → x < n → point n (y * n + x) ≡ pair (pos (suc x)) (pos y)
 point-at n x y h =
     let r : 1 + (y * n + x) % n ≡ suc x = omega (arith, digits-mod y h) in
     let q : (y * n + x) / n ≡ y = digits-div y h in
@@ -71,13 +71,13 @@ grid-has n x y h k =
     let low : y < n + 1 = omega arith in
     (y * n + x, nth-map-counting (point n) ((n + 1) * n) (y * n + x) (digits-lt low h) ∙ ap Some (point-at n x y h))
 
-sector-positive : (p : Plane) (z : Quad ℤ) → sector p z ≡ true → 1 ≤ norm p z
+pub sector-positive : (p : Plane) (z : Quad ℤ) → sector p z ≡ true → 1 ≤ norm p z
 sector-positive p z s = go z (sector-natural p z s) (re-bound p z)
   where
     go : (w : Quad ℤ) → Natural w → natAbs (w .re) ≤ norm p z → 1 ≤ norm p z
     go _ (natural x y) h = omega (arith, h)
 
-test-passes : (p : Plane) (n : ℕ) (z : Quad ℤ) → sector p z ≡ true → norm p z ≡ n → canonical-of p n z ≡ true
+pub test-passes : (p : Plane) (n : ℕ) (z : Quad ℤ) → sector p z ≡ true → norm p z ≡ n → canonical-of p n z ≡ true
 test-passes p n z s e = ap₂ _&&_ s (same-eqb (norm p z) n e)
 
 listed-in-grid : (n : ℕ) (z : Quad ℤ) → Natural z → natAbs (z .re) ≤ n → natAbs (z .im) ≤ n → Listed (grid n) z

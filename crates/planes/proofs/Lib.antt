@@ -1,8 +1,11 @@
 pub mod Tables
+pub mod Points
 pub mod Norms
 pub mod Division
 pub mod Units
 pub mod Sectors
 pub mod Canonical
 pub mod Residues
+pub mod Checks
+pub mod Numbers
 pub mod Laws

@@ -6,19 +6,23 @@ use mathlib.Core.List.{List, [], _∷_}
 use Prim.Native.Nat.{ℕ, zero, suc, _+_, _*_, _≤_, _<_}
 use native.Mathlib.Omega.{arith}
 use lib.IntN.{ℤ, pos, negsuc, negℤ, natAbs, _+ℤ_, _-ℤ_, _*ℤ_}
+use lib.Dec.{lit<}
 use lib.Signed.{leZ, ltZ}
+use borrow.Author.Count.{below-more}
 use Rattle.std.proofs.shelf.Signed.{ints}
 use Rattle.std.proofs.shelf.Tests.{cases-bool}
 use Rattle.std.specs.shelf.Maps.{nth}
 use Rattle.std.specs.declared.option.Option.the-variants.{Some, None}
+use Rattle.algebra.specs.Ring.{CommRing, Ops}
 use Rattle.algebra.specs.Divisors.{Associate, Invertible}
 use Rattle.algebra.specs.Euclidean.{Listed}
 use Rattle.algebra.specs.Quadratic.{Quad}
 use Rattle.algebra.proofs.Integers.{ℤ-ring}
-use Rattle.algebra.proofs.Quote.{ring, quoteℤ}
+use Rattle.algebra.proofs.Quadratic.{quad-ring}
+use Rattle.algebra.proofs.Quote.{ring, quote, quoteℤ}
 use Rattle.planes.specs.declared.Plane.{Plane}
 use Rattle.planes.specs.declared.Plane.the-variants.{Square, Hexagonal}
-use Rattle.planes.specs.Planes.{norm, pair, sector}
+use Rattle.planes.specs.Planes.{Turned, norm, pair, sector, trace, turn, turns}
 use Rattle.planes.proofs.Division.{arithmetic}
 use Rattle.planes.proofs.Units.{norm-one, norm-unit, unit-from-norm, unit-listed, units}
 
@@ -52,11 +56,6 @@ module _ (x y : ℤ) where
 
   pub by-ω-twice : pair (y -ℤ x) (negℤ x) ≡ arithmetic Hexagonal .mul (pair (negsuc 0) (negsuc 0)) (pair x y)
   by-ω-twice = pair-path (ring ℤ-ring (x ∷ y ∷ []) (λ k. search quoteℤ depth 9) (λ k. search quoteℤ depth 9) refl) (ring ℤ-ring (x ∷ y ∷ []) (λ k. search quoteℤ depth 9) (λ k. search quoteℤ depth 9) refl)
-
--- w is an associate of z, in the sector or 0
-pub record Turned (p : Plane) (z w : Quad ℤ) : Type 0 where
-  pub associate : Associate (arithmetic p) z w
-  pub placed : (sector p w ≡ true) ⊎ (w ≡ pair (pos 0) (pos 0))
 
 -- the unit u takes z to w
 pub turned-by : (p : Plane) (u z w : Quad ℤ) → norm p u ≡ 1 → w ≡ arithmetic p .mul u z → sector p w ≡ true → Turned p z w
@@ -122,36 +121,79 @@ sector-unique p a b s t h =
     let one = only-one p (l .0) u (a .re) (a .im) (l .1) s (ap (sector p) (sym (h .2)) ∙ t) in
     by-one (a .re) (a .im) p ∙ ap (λ (v : Quad ℤ). arithmetic p .mul v a) (sym one) ∙ sym (h .2)
 
--- the product by u, if it lies in the sector
-attempt : (p : Plane) (u z w : Quad ℤ) → norm p u ≡ 1 → w ≡ arithmetic p .mul u z → (sector p w ≡ false → (v : Quad ℤ) × Turned p z v) → (v : Quad ℤ) × Turned p z v
-attempt p u z w n e other = ⊎-elim (λ s. (w, turned-by p u z w n e s)) other (cases-bool (sector p w))
+-- to turn once more
+associate-more : {A : Type 0} {o : Ops A} (R : CommRing o) (z w v : A) → Associate o z w → Associate o w v → Associate o z v
+associate-more {A} {o} R z w v h k =
+    (o .mul (k .0) (h .0), (o .mul (k .1 .0) (h .1 .0), inverse R (k .0) (h .0) (k .1 .0) (h .1 .0) (k .1 .1) (h .1 .1)), k .2 ∙ ap (o .mul (k .0)) (h .2) ∙ sym (R .mul-assoc (k .0) (h .0) z))
+  where
+    shuffled : (a b c d : A) → o .mul (o .mul a b) (o .mul c d) ≡ o .mul (o .mul a c) (o .mul b d)
+    shuffled a b c d = ring R (a ∷ b ∷ c ∷ d ∷ []) (λ k. search quote depth 9) (λ k. search quote depth 9) refl
+
+    inverse : (S : CommRing o) (a b c d : A) → o .mul a c ≡ o .one → o .mul b d ≡ o .one → o .mul (o .mul a b) (o .mul c d) ≡ o .one
+    inverse S a b c d e f = shuffled a b c d ∙ ap₂ (o .mul) e f ∙ S .mul-one (o .one)
+
+turn-associate : (p : Plane) (z : Quad ℤ) → Associate (arithmetic p) z (turn p z)
+turn-associate Square z = (pair (pos 0) (pos 1), unit-from-norm Square (pair (pos 0) (pos 1)) refl, by-i (z .re) (z .im))
+turn-associate Hexagonal z = (pair (pos 1) (pos 1), unit-from-norm Hexagonal (pair (pos 1) (pos 1)) refl, by-one-and-ω (z .re) (z .im))
+
+pub turns-associate : (p : Plane) (k : ℕ) (z : Quad ℤ) → Associate (arithmetic p) z (turns p k z)
+turns-associate p zero z = (pair (pos 1) (pos 0), unit-from-norm p (pair (pos 1) (pos 0)) (norm-one p), by-one (z .re) (z .im) p)
+turns-associate p (suc k) z =
+    associate-more (quad-ring ℤ-ring (negsuc 0) (trace p)) z (turns p k z) (turn p (turns p k z)) (turns-associate p k z) (turn-associate p (turns p k z))
+
+pub turned-there : (p : Plane) (k : ℕ) (z : Quad ℤ) → sector p (turns p k z) ≡ true → Turned p z (turns p k z)
+turned-there p k z s = record { associate = turns-associate p k z; placed = inl s }
+
+-- the turns, written out
+turns-square : (z : Quad ℤ) → (turns Square 2 z ≡ pair (negℤ (z .re)) (negℤ (z .im))) × (turns Square 3 z ≡ pair (z .im) (negℤ (z .re))) × (turns Square 5 z ≡ pair (negℤ (z .im)) (z .re))
+turns-square z = (refl, pair-path (omega (arith, ints)) refl, pair-path (omega (arith, ints)) (omega (arith, ints)))
+
+turns-hexagonal : (z : Quad ℤ) → (turns Hexagonal 2 z ≡ pair (negℤ (z .im)) (z .re -ℤ z .im)) × (turns Hexagonal 3 z ≡ pair (negℤ (z .re)) (negℤ (z .im))) × (turns Hexagonal 4 z ≡ pair (z .im -ℤ z .re) (negℤ (z .re))) × (turns Hexagonal 5 z ≡ pair (z .im) (z .im -ℤ z .re))
+turns-hexagonal z = (
+  pair-path (omega (arith, ints)) refl,
+  pair-path (omega (arith, ints)) (omega (arith, ints)),
+  pair-path (omega (arith, ints)) (omega (arith, ints)),
+  pair-path (omega (arith, ints)) (omega (arith, ints)),
+)
 
 -- where no product by a unit lies in the sector, z is 0
-none-square : (x y : ℤ) → sector Square (pair x y) ≡ false → sector Square (pair y (negℤ x)) ≡ false → sector Square (pair (negℤ x) (negℤ y)) ≡ false → sector Square (pair (negℤ y) x) ≡ false → (x ≡ pos 0) × (y ≡ pos 0)
+none-square : (x y : ℤ) → sector Square (pair x y) ≡ false → sector Square (pair (negℤ y) x) ≡ false → sector Square (pair (negℤ x) (negℤ y)) ≡ false → sector Square (pair y (negℤ x)) ≡ false → (x ≡ pos 0) × (y ≡ pos 0)
 none-square x y a b c d = (grind (arith, ints), grind (arith, ints))
 
 none-hexagonal : (x y : ℤ) → sector Hexagonal (pair x y) ≡ false → sector Hexagonal (pair (x -ℤ y) x) ≡ false → sector Hexagonal (pair (negℤ y) (x -ℤ y)) ≡ false → sector Hexagonal (pair (negℤ x) (negℤ y)) ≡ false → sector Hexagonal (pair (y -ℤ x) (negℤ x)) ≡ false → sector Hexagonal (pair y (y -ℤ x)) ≡ false → (x ≡ pos 0) × (y ≡ pos 0)
 none-hexagonal x y a b c d e f = (grind (arith, ints), grind (arith, ints))
 
-at-zero : (p : Plane) (x y : ℤ) → (x ≡ pos 0) × (y ≡ pos 0) → (v : Quad ℤ) × Turned p (pair x y) v
-at-zero p x y e = (pair x y, record { associate = (pair (pos 1) (pos 0), unit-from-norm p (pair (pos 1) (pos 0)) (norm-one p), by-one x y p); placed = inr (pair-path (e .0) (e .1)) })
+turns-zero : (p : Plane) (k : ℕ) → turns p k (pair (pos 0) (pos 0)) ≡ pair (pos 0) (pos 0)
+turns-zero p zero = refl
+turns-zero p (suc k) = ap (turn p) (turns-zero p k) ∙ still p
+  where
+    still : (q : Plane) → turn q (pair (pos 0) (pos 0)) ≡ pair (pos 0) (pos 0)
+    still Square = refl
+    still Hexagonal = refl
 
--- some associate lies in the sector
-turn : (p : Plane) (x y : ℤ) → (w : Quad ℤ) × Turned p (pair x y) w
-turn Square x y =
-    attempt Square (pair (pos 1) (pos 0)) (pair x y) (pair x y) refl (by-one x y Square) λ a.
-    attempt Square (pair (pos 0) (negsuc 0)) (pair x y) (pair y (negℤ x)) refl (by-minus-i x y) λ b.
-    attempt Square (pair (negsuc 0) (pos 0)) (pair x y) (pair (negℤ x) (negℤ y)) refl (by-minus-one x y Square) λ c.
-    attempt Square (pair (pos 0) (pos 1)) (pair x y) (pair (negℤ y) x) refl (by-i x y) λ d.
-    at-zero Square x y (none-square x y a b c d)
-turn Hexagonal x y =
-    attempt Hexagonal (pair (pos 1) (pos 0)) (pair x y) (pair x y) refl (by-one x y Hexagonal) λ a.
-    attempt Hexagonal (pair (pos 1) (pos 1)) (pair x y) (pair (x -ℤ y) x) refl (by-one-and-ω x y) λ b.
-    attempt Hexagonal (pair (pos 0) (pos 1)) (pair x y) (pair (negℤ y) (x -ℤ y)) refl (by-ω x y) λ c.
-    attempt Hexagonal (pair (negsuc 0) (pos 0)) (pair x y) (pair (negℤ x) (negℤ y)) refl (by-minus-one x y Hexagonal) λ d.
-    attempt Hexagonal (pair (negsuc 0) (negsuc 0)) (pair x y) (pair (y -ℤ x) (negℤ x)) refl (by-ω-twice x y) λ e.
-    attempt Hexagonal (pair (pos 0) (negsuc 0)) (pair x y) (pair y (y -ℤ x)) refl (by-minus-ω x y) λ f.
-    at-zero Hexagonal x y (none-hexagonal x y a b c d e f)
+-- where the first five lie outside the sector, the sixth lies in it or is 0
+pub turned-last : (p : Plane) (z : Quad ℤ) → ((k : ℕ) → k < 5 → sector p (turns p k z) ≡ false) → Turned p z (turns p 5 z)
+turned-last p z out = record {
+  associate = turns-associate p 5 z;
+  placed = ⊎-elim inl (λ f. inr (ap (turns p 5) (nought p out f) ∙ turns-zero p 5)) (cases-bool (sector p (turns p 5 z)));
+}
+  where
+    nought : (q : Plane) → ((k : ℕ) → k < 5 → sector q (turns q k z) ≡ false) → sector q (turns q 5 z) ≡ false → z ≡ pair (pos 0) (pos 0)
+    nought Square o f =
+        let t = turns-square z in
+        let n = none-square (z .re) (z .im) (o 0 (lit< tt)) (o 1 (lit< tt)) (o 2 (lit< tt)) (ap (sector Square) (sym (t .1)) ∙ o 3 (lit< tt)) in
+        pair-path (n .0) (n .1)
+    nought Hexagonal o f =
+        let t = turns-hexagonal z in
+        let n = none-hexagonal (z .re) (z .im) (o 0 (lit< tt)) (o 1 (lit< tt)) (ap (sector Hexagonal) (sym (t .0)) ∙ o 2 (lit< tt)) (ap (sector Hexagonal) (sym (t .1)) ∙ o 3 (lit< tt)) (ap (sector Hexagonal) (sym (t .2)) ∙ o 4 (lit< tt)) (ap (sector Hexagonal) (sym (t .3)) ∙ f) in
+        pair-path (n .0) (n .1)
+
+-- the first of six turns that lies in the sector, or the last
+first-turn : (p : Plane) (z : Quad ℤ) (todo done : ℕ) → done + todo ≡ 5 → ((k : ℕ) → k < done → sector p (turns p k z) ≡ false) → (w : Quad ℤ) × Turned p z w
+first-turn p z zero done e out =
+    (turns p 5 z, turned-last p z (λ k h. out k (omega (arith, h, e))))
+first-turn p z (suc todo) done e out =
+    ⊎-elim (λ s. (turns p done z, turned-there p done z s)) (λ f. first-turn p z todo (done + 1) (omega (arith, e)) (below-more _ _ out f)) (cases-bool (sector p (turns p done z)))
 
 pub sector-exists : (p : Plane) (z : Quad ℤ) → (w : Quad ℤ) × Turned p z w
-sector-exists p z = turn p (z .re) (z .im)
+sector-exists p z = first-turn p z 5 0 refl (λ k h. absurd (omega (arith, h)))

@@ -2,13 +2,12 @@
 use mathlib.Core.Path.{_≡_, refl, sym, ap, ap₂, subst, _∙_}
 use mathlib.Core.Bool.{Bool, true, false, true≢false, cond, _&&_}
 use mathlib.Core.Logic.{_⊎_, inl, inr, ⊎-elim}
-use mathlib.Core.List.{List, [], _∷_, map}
+use mathlib.Core.List.{List, [], _∷_}
 use Prim.Native.Nat.{ℕ, zero, suc, _+_, _*_, _≤_, _<_}
 use native.Mathlib.Omega.{arith}
 use lib.Dec.{leb}
 use lib.IntN.{ℤ, negsuc, pos}
 use lib.ListN.{length}
-use Rattle.std.specs.Iters.{counting}
 use Rattle.std.specs.shelf.Lists.{kept-by}
 use Rattle.std.proofs.shelf.Tests.{cases-eq}
 use Rattle.algebra.specs.Quadratic.{Quad}
@@ -17,11 +16,7 @@ use Rattle.ring.specs.Elements.{same}
 use Rattle.ring.proofs.Places.{both, same-true}
 use Rattle.planes.specs.declared.Plane.{Plane}
 use Rattle.planes.specs.declared.Plane.the-variants.{Square, Hexagonal}
-use Rattle.planes.specs.Planes.{axes, canonical, canonical-of, point}
-
--- up to norm 64 the points with x from 1 to 9 and y from 0 to 8 are enough
-abbrev pub near : List (Quad ℤ)
-near = map (point 9) (counting 0 81)
+use Rattle.planes.specs.Planes.{axes, canonical, canonical-of, near}
 
 abbrev all-upto : (ℕ → Bool) → ℕ → Bool
 all-upto f zero = true
@@ -51,6 +46,7 @@ abbrev test : Plane → ℕ → Bool
 test p n = leb (length (canonical p n)) 8 && same-lists p (canonical p n) (kept-by (canonical-of p n) near)
 
 computed : (p : Plane) → all-upto (test p) 64 ≡ true
+unfolding near
 computed Square = refl
 computed Hexagonal = refl
 

@@ -1,15 +1,17 @@
 -- The rings of pairs x + yθ with θ² = −1 + tθ, for t = 0 and t = −1.
-use mathlib.Core.Bool.{Bool, _&&_}
+use mathlib.Core.Bool.{Bool, true, _&&_}
+use mathlib.Core.Logic.{_⊎_}
 use mathlib.Core.List.{List, [], _∷_, map}
+use mathlib.Core.Path.{_≡_}
 use Prim.Native.Nat.{ℕ, zero, suc, _+_, _*_, _/_, _%_}
 use lib.Dec.{eqb}
-use lib.IntN.{ℤ, pos, negsuc, natAbs}
+use lib.IntN.{ℤ, pos, negsuc, negℤ, natAbs, _-ℤ_}
 use lib.Signed.{leZ, ltZ}
 use Rattle.std.specs.Iters.{counting}
 use Rattle.std.specs.shelf.Lists.{kept-by}
 use Rattle.algebra.specs.Integers.{ℤ-ops}
-use Rattle.algebra.specs.Divisors.{gcd}
-use Rattle.algebra.specs.Quadratic.{Quad, norm-form}
+use Rattle.algebra.specs.Divisors.{Associate, gcd}
+use Rattle.algebra.specs.Quadratic.{Quad, norm-form, quad-ops}
 use Rattle.ring.specs.declared.elements.Coordinates.{Coordinates}
 use Rattle.ring.specs.declared.elements.Coordinates.the-variants.{Two}
 use Rattle.ring.specs.Meaning.{Meaning}
@@ -53,6 +55,24 @@ grid w = map (point w) (counting 0 ((w + 1) * w))
 abbrev pub canonical : Plane → ℕ → List (Quad ℤ)
 canonical p zero = pair (pos 0) (pos 0) ∷ []
 canonical p (suc n) = kept-by (canonical-of p (suc n)) (grid (span (suc n)))
+
+-- up to norm 64 the points with x from 1 to 9 and y from 0 to 8 are enough
+unfoldable pub near : List (Quad ℤ)
+near = map (point 9) (counting 0 81)
+
+-- z times a unit that generates the others: θ in the square plane, 1 + θ in the hexagonal one
+abbrev pub turn : Plane → Quad ℤ → Quad ℤ
+turn Square z = pair (negℤ (z .im)) (z .re)
+turn Hexagonal z = pair (z .re -ℤ z .im) (z .re)
+
+abbrev pub turns : Plane → ℕ → Quad ℤ → Quad ℤ
+turns p zero z = z
+turns p (suc k) z = turn p (turns p k z)
+
+-- w is an associate of z, in the sector or 0
+pub record Turned (p : Plane) (z w : Quad ℤ) : Type 0 where
+  pub associate : Associate (quad-ops ℤ-ops (negsuc 0) (trace p)) z w
+  pub placed : (sector p w ≡ true) ⊎ (w ≡ pair (pos 0) (pos 0))
 
 -- the greatest common divisor of the coordinates
 abbrev pub content : Quad ℤ → ℕ

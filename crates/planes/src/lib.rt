@@ -2,8 +2,10 @@
 //!
 //! Both are pairs x + yθ with θ² = −1 + tθ, so one theory serves the two: t is 0 for the square plane, where θ is the
 //! imaginary unit, and −1 for the hexagonal plane, where θ is a third root of one.
-ghost use Rattle.planes.specs.Planes.{plane};
+ghost use Rattle.planes.specs.Planes.{axes, plane};
 ghost use Rattle.ring.specs.Meaning.{Laws};
+ghost use mathlib.Core.Path.{_≡_};
+use ring::Coordinates;
 
 /// The plane in which the ring's elements are the points of a lattice.
 #[derive(Clone, Copy)]
@@ -12,6 +14,18 @@ pub enum Plane {
     Square,
     /// The Eisenstein integers: θ² = −1 − θ.
     Hexagonal,
+}
+
+impl Plane {
+    /// The coordinates of the plane's ring: θ² = −1, or θ² = −1 − θ.
+    pub fn axes(self) -> Coordinates
+        ensures { λ r. ⌜ r ≡ axes self ⌝ }
+    {
+        match self {
+            Plane::Square => Coordinates::Two(-1, 0),
+            Plane::Hexagonal => Coordinates::Two(-1, -1),
+        }
+    }
 }
 
 /// Both planes keep every law of a ring.

@@ -1,2 +1,4 @@
 pub mod Limits
 pub mod Places
+pub mod Checks
+pub mod Rings

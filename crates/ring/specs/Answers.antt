@@ -14,12 +14,12 @@ use Rattle.std.specs.declared.result.Result.the-variants.{Ok, Err}
 use Rattle.algebra.specs.Divisors.{Congruent, Associate}
 use Rattle.algebra.specs.Euclidean.{Canonical, Divided, Listed}
 use Rattle.refusal.specs.declared.Refusal.{Refusal}
-use Rattle.refusal.specs.declared.Cause.the-variants.{Index, Modulus, Outside}
+use Rattle.refusal.specs.declared.Cause.the-variants.{Modulus, Outside}
 use Rattle.refusal.specs.Numbers.{refuse, refused, then}
 use Rattle.ring.specs.declared.elements.Element.{Element}
 use Rattle.ring.specs.declared.elements.Division.{Division}
 use Rattle.ring.specs.declared.elements.Coordinates.{Coordinates}
-use Rattle.ring.specs.Elements.{Carrier, ops, element, value, Member, same, admitted}
+use Rattle.ring.specs.Elements.{Carrier, ops, element, value, Member, same, admitted, norm-check}
 use Rattle.ring.specs.Meaning.{Meaning}
 
 -- where the checks pass, an answer with P; else their refusal
@@ -53,10 +53,6 @@ module _ (m : Meaning) where
 
   abbrev pub divisor-check : Element → Result (Unit {0}) Refusal
   divisor-check b = cond (is-zero b) (refuse Modulus) (Ok tt)
-
-  -- n is the norm of a list
-  abbrev pub norm-check : ℕ → Result (Unit {0}) Refusal
-  norm-check n = cond (leb 1 n && leb n 64) (Ok tt) (refuse Index)
 
   abbrev pub one-check : Element → Result (Unit {0}) Refusal
   one-check a = admitted (m .coordinates) a

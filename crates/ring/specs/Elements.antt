@@ -10,7 +10,7 @@ use Rattle.algebra.specs.Ring.{Ops}
 use Rattle.algebra.specs.Integers.{ℤ-ops}
 use Rattle.algebra.specs.Quadratic.{Quad, quad-ops}
 use Rattle.refusal.specs.declared.Refusal.{Refusal}
-use Rattle.refusal.specs.declared.Cause.the-variants.{Coordinate}
+use Rattle.refusal.specs.declared.Cause.the-variants.{Coordinate, Index}
 use Rattle.refusal.specs.Numbers.{refuse}
 use Rattle.ring.specs.declared.elements.Element.{Element}
 use Rattle.ring.specs.declared.elements.Coordinates.{Coordinates}
@@ -64,6 +64,10 @@ reach = 2 ^ 30
 
 abbrev pub admitted : Coordinates → Element → Result (Unit {0}) Refusal
 admitted k e = cond (admits k reach e) (Ok tt) (refuse Coordinate)
+
+-- the canonical elements of norm 1 to 64 are numbered
+abbrev pub norm-check : ℕ → Result (Unit {0}) Refusal
+norm-check n = cond (leb 1 n && leb n 64) (Ok tt) (refuse Index)
 
 -- the coordinates of z lie from −limit to limit
 pub record Within (limit : ℕ) (e : Element) : Type 0 where

@@ -1,6 +1,7 @@
 //! Elements and their coordinates.
 ghost use mathlib.Core.Path.{_≡_};
-ghost use Rattle.ring.specs.Elements.{Within, admitted, reach};
+ghost use Prim.Native.Nat.{_≤_};
+ghost use Rattle.ring.specs.Elements.{Within, admitted, norm-check, reach};
 ghost use Rattle.std.specs.Vec.{made};
 use refusal::Cause;
 use refusal::Refusal;
@@ -44,5 +45,17 @@ pub fn admit(k: Coordinates, e: Element) -> Result<(), Refusal>
         Ok(())
     } else {
         Err(Refusal::of(Cause::Coordinate))
+    }
+}
+
+/// Refuses a norm that has no list of canonical elements.
+pub fn admit_norm(norm: u64) -> Result<(), Refusal>
+    ensures value { λ r. ⌜ r ≡ norm-check norm ⌝ }
+    ensures bounds { λ r. ⌜ made r (λ _. (1 ≤ norm) × (norm ≤ 64)) ⌝ }
+{
+    if 1 <= norm && norm <= 64 {
+        Ok(())
+    } else {
+        Err(Refusal::of(Cause::Index))
     }
 }

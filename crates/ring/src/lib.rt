@@ -16,6 +16,7 @@ pub use elements::ElementDebug;
 pub use elements::ElementEq;
 pub use elements::ElementPartialEq;
 pub use elements::admit;
+pub use elements::admit_norm;
 
 /// A ring with a norm and a division, one canonical element among associates, and numbered residues.
 ///

@@ -1,0 +1,10 @@
+pub mod Multiples
+pub mod Euclid
+pub mod Unique
+pub mod Residues
+pub mod Gates
+pub mod Congruence
+pub mod Limits
+pub mod Measured
+pub mod Turns
+pub mod Begin

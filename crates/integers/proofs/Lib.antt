@@ -1,0 +1,5 @@
+pub mod Signs
+pub mod Division
+pub mod Residues
+pub mod Laws
+pub mod Returned

@@ -1,0 +1,66 @@
+//! The calls of the Gaussian and the Eisenstein ring, written once for both planes.
+ghost use Rattle.planes.specs.Planes.{plane};
+ghost use Rattle.ring.specs.Answers.{CanonicalAnswer, canonical-element-answer, canonical-number-answer, count-answer, norm-answer};
+ghost use mathlib.Core.Path.{_≡_};
+use planes::Plane;
+use refusal::Cause;
+use refusal::Refusal;
+use ring::Element;
+use ring::admit_norm;
+
+mod canonical;
+mod norms;
+mod whole;
+
+use canonical::POINTS;
+use canonical::count_before;
+use canonical::find;
+use canonical::index_of;
+use canonical::to_sector;
+use norms::admit_in;
+use norms::in_sector;
+use norms::norm_of;
+
+/// The norm of an element.
+pub fn norm(p: Plane, a: Element) -> Result<u64, Refusal>
+    ensures { λ r. ⌜ r ≡ norm-answer (plane p) a ⌝ }
+{
+    admit_in(p, a)?;
+    Ok(norm_of(p, a))
+}
+
+/// The associate in the sector, or 0.
+pub fn canonical_associate(p: Plane, a: Element) -> Result<Element, Refusal>
+    ensures { λ r. ⌜ CanonicalAnswer (plane p) a r ⌝ }
+{
+    admit_in(p, a)?;
+    Ok(to_sector(p, a))
+}
+
+/// How many canonical elements have this norm.
+pub fn canonical_count(p: Plane, norm: u64) -> Result<u64, Refusal>
+    ensures { λ r. ⌜ r ≡ count-answer (plane p) norm ⌝ }
+{
+    admit_norm(norm)?;
+    Ok(count_before(p, norm, POINTS))
+}
+
+/// The canonical element of this norm and number.
+pub fn canonical_element(p: Plane, norm: u64, number: u64) -> Result<Element, Refusal>
+    ensures { λ r. ⌜ r ≡ canonical-element-answer (plane p) norm number ⌝ }
+{
+    admit_norm(norm)?;
+    find(p, norm, number).ok_or(Refusal::of(Cause::Outside))
+}
+
+/// The number of a canonical element among those of its norm.
+pub fn canonical_number(p: Plane, a: Element) -> Result<u64, Refusal>
+    ensures { λ r. ⌜ r ≡ canonical-number-answer (plane p) a ⌝ }
+{
+    admit_in(p, a)?;
+    let norm = norm_of(p, a);
+    if !in_sector(p, a) || norm > 64 {
+        return Err(Refusal::of(Cause::Outside));
+    }
+    Ok(count_before(p, norm, index_of(a)))
+}
