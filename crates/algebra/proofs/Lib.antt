@@ -5,5 +5,6 @@ pub mod Quote
 pub mod Integers
 pub mod Quadratic
 pub mod Gcd
+pub mod Euclid
 pub mod Floor
 pub mod Once

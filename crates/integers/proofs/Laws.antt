@@ -16,7 +16,7 @@ use Rattle.ring.specs.Meaning.{Laws}
 use Rattle.ring.proofs.Limits.{natAbs-mul}
 use Rattle.integers.specs.Integers.{canonical, integers, residues}
 use Rattle.integers.proofs.Signs.{zero-from-size, size-apart, no-zero-divisors, unit-size, unit-from-size, units, size-associate, same-size}
-use Rattle.integers.proofs.Division.{divided, remainder-small}
+use Rattle.algebra.proofs.Euclid.{divided, remainder-small}
 use Rattle.integers.proofs.Residues.{residue-at, residue-listed, residues-once, remainder-congruent, remainder-listed}
 
 -- the only canonical element of a norm, at the only place

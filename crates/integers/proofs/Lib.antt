@@ -1,5 +1,4 @@
 pub mod Signs
-pub mod Division
 pub mod Residues
 pub mod Laws
 pub mod Returned

@@ -19,7 +19,7 @@ use Rattle.algebra.specs.Divisors.{Congruent}
 use Rattle.algebra.specs.Euclidean.{Listed}
 use Rattle.ring.proofs.Limits.{natAbs-mul}
 use Rattle.integers.specs.Integers.{residues}
-use Rattle.integers.proofs.Division.{divided, remainder-natural, remainder-small}
+use Rattle.algebra.proofs.Euclid.{divided, remainder-natural, remainder-small}
 
 nth-from : (a n i : ℕ) → i < n → nth (map pos (counting a n)) i ≡ Some (pos (a + i))
 nth-from a zero i h = absurd (omega arith)

@@ -23,7 +23,7 @@ use Rattle.ring.proofs.Checks.{meets, passes}
 use Rattle.ring.proofs.Places.{place-nth, place-none, same-refl, same-true}
 use Rattle.integers.specs.Integers.{integers, residues}
 use Rattle.integers.proofs.Signs.{size-associate}
-use Rattle.integers.proofs.Division.{divided, remainder-small}
+use Rattle.algebra.proofs.Euclid.{divided, remainder-small}
 use Rattle.integers.proofs.Residues.{residue-at, residue-listed, residue-past, remainder-congruent, remainder-listed}
 
 abbrev pub whole : ℤ → Element

@@ -1,2 +1,5 @@
 pub mod Forms
 pub mod Turns
+pub mod Wide
+pub mod Rounding
+pub mod Rounded

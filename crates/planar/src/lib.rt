@@ -1,14 +1,16 @@
 //! The calls of the Gaussian and the Eisenstein ring, written once for both planes.
 ghost use Rattle.planes.specs.Planes.{plane};
-ghost use Rattle.ring.specs.Answers.{CanonicalAnswer, canonical-element-answer, canonical-number-answer, count-answer, norm-answer};
+ghost use Rattle.ring.specs.Answers.{CanonicalAnswer, DivisionAnswer, canonical-element-answer, canonical-number-answer, count-answer, norm-answer};
 ghost use mathlib.Core.Path.{_≡_};
 use planes::Plane;
 use refusal::Cause;
 use refusal::Refusal;
+use ring::Division;
 use ring::Element;
 use ring::admit_norm;
 
 mod canonical;
+mod division;
 mod norms;
 mod whole;
 
@@ -17,6 +19,7 @@ use canonical::count_before;
 use canonical::find;
 use canonical::index_of;
 use canonical::to_sector;
+use division::rounded;
 use norms::admit_in;
 use norms::in_sector;
 use norms::norm_of;
@@ -63,4 +66,17 @@ pub fn canonical_number(p: Plane, a: Element) -> Result<u64, Refusal>
         return Err(Refusal::of(Cause::Outside));
     }
     Ok(count_before(p, norm, index_of(a)))
+}
+
+/// The nearest quotient, and the remainder that it leaves.
+pub fn divide(p: Plane, a: Element, b: Element) -> Result<Division, Refusal>
+    ensures { λ r. ⌜ DivisionAnswer (plane p) a b r ⌝ }
+{
+    admit_in(p, a)?;
+    admit_in(p, b)?;
+    let norm = norm_of(p, b);
+    if norm == 0 {
+        return Err(Refusal::of(Cause::Modulus));
+    }
+    Ok(rounded(p, a, b, norm))
 }

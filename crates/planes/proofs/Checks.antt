@@ -12,13 +12,14 @@ use Rattle.refusal.specs.declared.Cause.the-variants.{Modulus}
 use Rattle.refusal.specs.declared.Refusal.{Refusal}
 use Rattle.refusal.specs.Numbers.{refuse}
 use Rattle.ring.specs.declared.elements.Element.{Element}
-use Rattle.ring.specs.Answers.{canonical-place, is-zero, modulus-check}
+use Rattle.ring.specs.Answers.{canonical-place, divisor-check, is-zero, modulus-check}
 use Rattle.ring.proofs.Places.{canonical-listed, listed-canonical, same-zero, zero-same}
 use Rattle.std.proofs.shelf.Tests.{cases-bool}
 use Rattle.planes.specs.declared.Plane.{Plane}
 use Rattle.planes.specs.declared.Plane.the-variants.{Square, Hexagonal}
 use Rattle.planes.specs.Planes.{norm, pair, plane, sector}
-use Rattle.planes.proofs.Canonical.{listed-sector, sector-canonical}
+use Rattle.planes.proofs.Canonical.{listed-sector, norm-nought, sector-canonical}
+use Rattle.planes.proofs.Norms.{zero-from-norm}
 
 nought-outside : (p : Plane) → sector p (pair (pos 0) (pos 0)) ≡ false
 nought-outside Square = refl
@@ -43,3 +44,10 @@ module _ (p : Plane) (e : Element) where
 
   pub modulus-outside : sector p (pair (e .x) (e .y)) ≡ false → modulus-check (plane p) e ≡ refuse Modulus
   modulus-outside s = ap (λ (b : Bool). cond b (Ok tt) (refuse Modulus)) (outside s)
+
+  -- a divisor is 0 exactly if its norm is
+  pub divisor-none : norm p (pair (e .x) (e .y)) ≡ 0 → divisor-check (plane p) e ≡ refuse Modulus
+  divisor-none n = ap (λ (z : Bool). cond z (refuse Modulus) (Ok tt)) (same-zero (plane p) e (zero-from-norm p (pair (e .x) (e .y)) n))
+
+  pub divisor-some : 0 < norm p (pair (e .x) (e .y)) → divisor-check (plane p) e ≡ Ok tt
+  divisor-some n = ap (λ (z : Bool). cond z (refuse Modulus) (Ok tt)) (⊎-elim (λ z. absurd (let h : norm p (pair (e .x) (e .y)) ≡ 0 = ap (norm p) (zero-same (plane p) e z) ∙ norm-nought p in omega (arith, h, n))) (λ f. f) (cases-bool (is-zero (plane p) e)))

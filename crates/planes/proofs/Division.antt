@@ -20,19 +20,11 @@ use Rattle.algebra.proofs.Quote.{ring, quote, quoteℤ}
 use Rattle.ring.proofs.Limits.{natAbs-mul}
 use Rattle.planes.specs.declared.Plane.{Plane}
 use Rattle.planes.specs.declared.Plane.the-variants.{Square, Hexagonal}
-use Rattle.planes.specs.Planes.{norm, pair, plane, trace}
+use Rattle.planes.specs.Planes.{Nearest, left-over, norm, over, pair, plane, trace}
 use Rattle.planes.proofs.Norms.{mul-conjugate-is-norm, norm-conjugate, norm-mul, zero-from-norm}
-
--- q times n is nearest to z: they differ by n/2 at most
-pub record Nearest (z : ℤ) (n : ℕ) (q : ℤ) : Type 0 where
-  pub near : 2 * natAbs (z -ℤ q *ℤ pos n) ≤ n
 
 abbrev pub arithmetic : Plane → Ops (Quad ℤ)
 arithmetic p = quad-ops ℤ-ops (negsuc 0) (trace p)
-
--- z times the conjugate of w
-abbrev pub over : Plane → Quad ℤ → Quad ℤ → Quad ℤ
-over p z w = arithmetic p .mul z (conjugate ℤ-ops (negsuc 0) (trace p) w)
 
 form-apart : (t e f : ℤ) → norm-form ℤ-ops (negsuc 0) t (pair e f) ≡ e *ℤ e +ℤ f *ℤ f +ℤ t *ℤ (e *ℤ f)
 form-apart t e f = ring ℤ-ring (t ∷ e ∷ f ∷ []) (λ k. search quoteℤ depth 9) (λ k. search quoteℤ depth 9) refl
@@ -80,34 +72,31 @@ added-back : {A : Type 0} {o : Ops A} (R : CommRing o) (u v : A) → u ≡ o .ad
 added-back R u v = ring R (u ∷ v ∷ []) (λ k. search quote depth 9) (λ k. search quote depth 9) refl
 
 module _ (p : Plane) (a b q : Quad ℤ) where
-  abbrev rest : Quad ℤ
-  rest = sub (arithmetic p) a (arithmetic p .mul q b)
-
   abbrev left : ℤ
   left = over p a b .re -ℤ q .re *ℤ pos (norm p b)
 
   abbrev right : ℤ
   right = over p a b .im -ℤ q .im *ℤ pos (norm p b)
 
-  rest-over : over p rest b ≡ pair left right
+  rest-over : over p (left-over p a b q) b ≡ pair left right
   rest-over =
       moved (quad-ring ℤ-ring (negsuc 0) (trace p)) a q b (conjugate ℤ-ops (negsuc 0) (trace p) b)
       ∙ ap (λ (s : Quad ℤ). sub (arithmetic p) (over p a b) (arithmetic p .mul q s)) (mul-conjugate-is-norm p b)
       ∙ ap (λ (s : Quad ℤ). sub (arithmetic p) (over p a b) s) (times-whole (trace p) (q .re) (q .im) (pos (norm p b)))
 
-  rest-norm : norm p rest * norm p b ≡ norm p (pair left right)
-  rest-norm = ap (λ (n : ℕ). norm p rest * n) (sym (norm-conjugate p b)) ∙ sym (norm-mul p rest (conjugate ℤ-ops (negsuc 0) (trace p) b)) ∙ ap (norm p) rest-over
+  rest-norm : norm p (left-over p a b q) * norm p b ≡ norm p (pair left right)
+  rest-norm = ap (λ (n : ℕ). norm p (left-over p a b q) * n) (sym (norm-conjugate p b)) ∙ sym (norm-mul p (left-over p a b q) (conjugate ℤ-ops (negsuc 0) (trace p) b)) ∙ ap (norm p) rest-over
 
   -- by rounding both coordinates
   module _ (nonzero : 0 < norm p b) (re : Nearest (over p a b .re) (norm p b) (q .re)) (im : Nearest (over p a b .im) (norm p b) (q .im)) where
-    pub remainder-small : 4 * norm p rest ≤ 3 * norm p b
+    pub remainder-small : 4 * norm p (left-over p a b q) ≤ 3 * norm p b
     remainder-small =
         let low = norm-at-most p left right in
         let most = three-quarters (natAbs left) (natAbs right) (norm p b) (re .near) (im .near) in
-        let all : 4 * norm p rest * norm p b ≤ 3 * norm p b * norm p b = omega (arith, rest-norm, low, most) in
+        let all : 4 * norm p (left-over p a b q) * norm p b ≤ 3 * norm p b * norm p b = omega (arith, rest-norm, low, most) in
         le-of-mul-le-mul-right all nonzero
 
-    pub divided : Divided (arithmetic p) (plane p .euclidean) a b q rest
+    pub divided : Divided (arithmetic p) (plane p .euclidean) a b q (left-over p a b q)
     divided = record { sum = added-back (quad-ring ℤ-ring (negsuc 0) (trace p)) a (arithmetic p .mul q b); smaller = omega (arith, remainder-small, nonzero) }
 
 -- the nearest multiple is the one below or the one above
@@ -137,4 +126,4 @@ division p a b apart =
     let some : 0 < norm p b = pos-of-ne-zero (λ e. apart (zero-from-norm p b e)) in
     let x = nearest-exists (over p a b .re) (norm p b) some in
     let y = nearest-exists (over p a b .im) (norm p b) some in
-    (pair (x .0) (y .0), rest p a b (pair (x .0) (y .0)), divided p a b (pair (x .0) (y .0)) some (x .1) (y .1))
+    (pair (x .0) (y .0), left-over p a b (pair (x .0) (y .0)), divided p a b (pair (x .0) (y .0)) some (x .1) (y .1))

@@ -3,15 +3,15 @@ use mathlib.Core.Bool.{Bool, true, _&&_}
 use mathlib.Core.Logic.{_⊎_}
 use mathlib.Core.List.{List, [], _∷_, map}
 use mathlib.Core.Path.{_≡_}
-use Prim.Native.Nat.{ℕ, zero, suc, _+_, _*_, _/_, _%_}
+use Prim.Native.Nat.{ℕ, zero, suc, _+_, _*_, _/_, _%_, _≤_}
 use lib.Dec.{eqb}
-use lib.IntN.{ℤ, pos, negsuc, negℤ, natAbs, _-ℤ_}
+use lib.IntN.{ℤ, pos, negsuc, negℤ, natAbs, _*ℤ_, _-ℤ_}
 use lib.Signed.{leZ, ltZ}
 use Rattle.std.specs.Iters.{counting}
 use Rattle.std.specs.shelf.Lists.{kept-by}
 use Rattle.algebra.specs.Integers.{ℤ-ops}
-use Rattle.algebra.specs.Divisors.{Associate, gcd}
-use Rattle.algebra.specs.Quadratic.{Quad, norm-form, quad-ops}
+use Rattle.algebra.specs.Divisors.{Associate, gcd, sub}
+use Rattle.algebra.specs.Quadratic.{Quad, conjugate, norm-form, quad-ops}
 use Rattle.ring.specs.declared.elements.Coordinates.{Coordinates}
 use Rattle.ring.specs.declared.elements.Coordinates.the-variants.{Two}
 use Rattle.ring.specs.Meaning.{Meaning}
@@ -73,6 +73,18 @@ turns p (suc k) z = turn p (turns p k z)
 pub record Turned (p : Plane) (z w : Quad ℤ) : Type 0 where
   pub associate : Associate (quad-ops ℤ-ops (negsuc 0) (trace p)) z w
   pub placed : (sector p w ≡ true) ⊎ (w ≡ pair (pos 0) (pos 0))
+
+-- q times n is nearest to z: they differ by n/2 at most
+pub record Nearest (z : ℤ) (n : ℕ) (q : ℤ) : Type 0 where
+  pub near : 2 * natAbs (z -ℤ q *ℤ pos n) ≤ n
+
+-- z times the conjugate of w
+abbrev pub over : Plane → Quad ℤ → Quad ℤ → Quad ℤ
+over p z w = quad-ops ℤ-ops (negsuc 0) (trace p) .mul z (conjugate ℤ-ops (negsuc 0) (trace p) w)
+
+-- what is left of z without q times w
+abbrev pub left-over : Plane → Quad ℤ → Quad ℤ → Quad ℤ → Quad ℤ
+left-over p z w q = sub (quad-ops ℤ-ops (negsuc 0) (trace p)) z (quad-ops ℤ-ops (negsuc 0) (trace p) .mul q w)
 
 -- the greatest common divisor of the coordinates
 abbrev pub content : Quad ℤ → ℕ

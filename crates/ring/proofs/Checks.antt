@@ -1,5 +1,5 @@
 -- Answers of calls whose checks are known to pass.
-use mathlib.Core.Path.{_≡_, refl, sym, ap, subst}
+use mathlib.Core.Path.{_≡_, refl, sym, ap, subst, _∙_}
 use Prim.Native.Nat.{ℕ}
 use native.Mathlib.Omega.{arith}
 use Rattle.std.specs.declared.result.Result.{Result}
@@ -34,3 +34,7 @@ met-refuses (Err f) P e p = cc
 pub met-answers : {X : Type 0} (k : Result (Unit {0}) Refusal) (P : X → Type 0) (r : Result X Refusal) → k ≡ Ok tt → Meets k r P → (x : X) × (r ≡ Ok x) × P x
 met-answers k P (Ok x) e p = (x, refl, met k P x e p)
 met-answers k P (Err f) e p = absurd (subst (λ (j : Result (Unit {0}) Refusal). Meets j (Err f) P) e p)
+
+-- both checks pass
+pub passes-both : (j k : Result (Unit {0}) Refusal) → Ok tt ≡ j → Ok tt ≡ k → then j k ≡ Ok tt
+passes-both j k p q = passes j tt k (sym p) ∙ sym q
