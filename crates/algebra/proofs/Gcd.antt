@@ -3,14 +3,14 @@ use mathlib.Core.Path.{_≡_, refl, sym, ap, ap₂, subst, _∙_}
 use mathlib.Core.List.{[], _∷_}
 use Prim.Native.Nat.{ℕ, zero, suc, _+_, _*_, _/_, _%_, _≤_, _<_}
 use native.Mathlib.Omega.{arith}
-use native.Mathlib.Nat.{mod-lt}
-use lib.IntN.{ℤ, pos, negℤ, _+ℤ_, _*ℤ_, _-ℤ_}
-use Rattle.std.proofs.shelf.Signed.{ints}
+use native.Mathlib.Nat.{mod-lt, mul-zero, zero-mul}
+use lib.IntN.{ℤ, pos, negℤ, natAbs, _+ℤ_, _*ℤ_, _-ℤ_}
 use Rattle.algebra.specs.Divisors.{gcd, gcd-within}
 use Rattle.algebra.specs.Integers.{ℤ-ops}
 use Rattle.algebra.specs.Statements.{IsGcd}
 use Rattle.algebra.proofs.Integers.{ℤ-ring}
 use Rattle.algebra.proofs.Quote.{ring, quoteℤ}
+use Rattle.algebra.proofs.Whole.{natAbs-mul}
 
 one-times : (z : ℤ) → z ≡ pos 1 *ℤ z
 one-times z = ring ℤ-ring (z ∷ []) (λ k. search quoteℤ) (λ k. search quoteℤ) refl
@@ -57,3 +57,34 @@ gcd-within-is (suc fuel) a (suc b) h =
 
 pub gcd-is : (m n : ℕ) → IsGcd m n (gcd m n)
 gcd-is m n = gcd-within-is n m n (omega arith)
+
+-- a common divisor divides every combination
+divides-combination : (g a b u v x y : ℤ) → a ≡ x *ℤ g → b ≡ y *ℤ g → u *ℤ a +ℤ v *ℤ b ≡ (u *ℤ x +ℤ v *ℤ y) *ℤ g
+divides-combination g a b u v x y h k =
+    ap₂ (λ (s t : ℤ). u *ℤ s +ℤ v *ℤ t) h k ∙ ring ℤ-ring (g ∷ u ∷ v ∷ x ∷ y ∷ []) (λ k. search quoteℤ depth 9) (λ k. search quoteℤ depth 9) refl
+
+gcd-divides : (m n g h : ℕ) → IsGcd m n g → IsGcd m n h → (k : ℕ) × (h ≡ k * g)
+gcd-divides m n g h i j =
+    let c = j .combination in
+    let k = c .0 *ℤ i .divides-left .0 +ℤ c .1 *ℤ i .divides-right .0 in
+    (natAbs k, ap natAbs (c .2 ∙ divides-combination (pos g) (pos m) (pos n) (c .0) (c .1) (i .divides-left .0) (i .divides-right .0) (i .divides-left .1) (i .divides-right .1)) ∙ natAbs-mul k (pos g))
+
+both-divide : (g h j k : ℕ) → h ≡ k * g → g ≡ j * h → g ≡ h
+both-divide g h j zero e f = let z : j * h ≡ 0 = ap (λ (n : ℕ). j * n) (e ∙ zero-mul g) ∙ mul-zero j in omega (arith, e, f, z, zero-mul g)
+both-divide g h j (suc zero) e f = omega (arith, e)
+both-divide zero h j (suc (suc k)) e f = omega (arith, e)
+both-divide (suc g) h zero (suc (suc k)) e f = absurd (omega (arith, f, zero-mul h))
+both-divide (suc g) h (suc j) (suc (suc k)) e f =
+    let s : h ≤ suc j * h = omega arith in
+    absurd (omega (arith, e, f, s))
+
+-- there is only one
+pub gcd-unique : (m n g h : ℕ) → IsGcd m n g → IsGcd m n h → g ≡ h
+gcd-unique m n g h i j =
+    let k = gcd-divides m n g h i j in
+    let l = gcd-divides m n h g j i in
+    both-divide g h (l .0) (k .0) (k .1) (l .1)
+
+-- to divide leaves it as it is
+pub gcd-step : (a b q r : ℕ) → a ≡ q * b + r → gcd b r ≡ gcd a b
+gcd-step a b q r e = gcd-unique a b (gcd b r) (gcd a b) (gcd-divided a b q r (gcd b r) e (gcd-is b r)) (gcd-is a b)

@@ -4,6 +4,7 @@ pub mod Solver
 pub mod Quote
 pub mod Integers
 pub mod Quadratic
+pub mod Whole
 pub mod Gcd
 pub mod Euclid
 pub mod Floor

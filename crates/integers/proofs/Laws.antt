@@ -13,9 +13,10 @@ use Rattle.algebra.specs.Integers.{ℤ-ops}
 use Rattle.algebra.specs.Euclidean.{EuclideanLaws, Canonical, Listed, Modulus}
 use Rattle.ring.specs.Elements.{element}
 use Rattle.ring.specs.Meaning.{Laws}
-use Rattle.ring.proofs.Limits.{natAbs-mul}
+use Rattle.algebra.proofs.Whole.{natAbs-mul}
 use Rattle.integers.specs.Integers.{canonical, integers, residues}
-use Rattle.integers.proofs.Signs.{zero-from-size, size-apart, no-zero-divisors, unit-size, unit-from-size, units, size-associate, same-size}
+use Rattle.algebra.proofs.Whole.{zero-from-natAbs}
+use Rattle.integers.proofs.Signs.{size-apart, no-zero-divisors, unit-size, unit-from-size, units, size-associate, same-size}
 use Rattle.algebra.proofs.Euclid.{divided, remainder-small}
 use Rattle.integers.proofs.Residues.{residue-at, residue-listed, residues-once, remainder-congruent, remainder-listed}
 
@@ -37,7 +38,7 @@ euclidean-laws : EuclideanLaws ℤ-ops (integers .euclidean)
 euclidean-laws = record {
   no-zero-divisors = no-zero-divisors;
   norm-zero = refl;
-  zero-from-norm = zero-from-size;
+  zero-from-norm = zero-from-natAbs;
   norm-mul = natAbs-mul;
   division = λ a b h. (divEuclid a b, remEuclid a b, record { sum = divided a b (size-apart b h); smaller = remainder-small a b (size-apart b h) });
   norm-unit = unit-size;

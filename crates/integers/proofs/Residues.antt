@@ -17,7 +17,7 @@ use Rattle.std.proofs.shelf.Tests.{cases-lt}
 use Rattle.algebra.specs.Integers.{ℤ-ops}
 use Rattle.algebra.specs.Divisors.{Congruent}
 use Rattle.algebra.specs.Euclidean.{Listed}
-use Rattle.ring.proofs.Limits.{natAbs-mul}
+use Rattle.algebra.proofs.Whole.{natAbs-mul}
 use Rattle.integers.specs.Integers.{residues}
 use Rattle.algebra.proofs.Euclid.{divided, remainder-natural, remainder-small}
 

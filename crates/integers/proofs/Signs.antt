@@ -11,35 +11,18 @@ use Rattle.std.proofs.shelf.Signed.{ints}
 use Rattle.algebra.specs.Integers.{ℤ-ops}
 use Rattle.algebra.specs.Divisors.{Invertible, Associate}
 use Rattle.algebra.specs.Euclidean.{Listed}
-use Rattle.ring.proofs.Limits.{natAbs-mul}
-
-pub zero-from-size : (a : ℤ) → natAbs a ≡ 0 → a ≡ pos 0
-zero-from-size (pos n) e = ap pos e
-zero-from-size (negsuc n) e = absurd (omega arith)
+use Rattle.algebra.proofs.Whole.{natAbs-mul, one-product, zero-from-natAbs, zero-product}
 
 pub size-apart : (a : ℤ) → (a ≡ pos 0 → ⊥) → 0 < natAbs a
 size-apart (pos zero) h = absurd (h refl)
 size-apart (pos (suc n)) h = omega arith
 size-apart (negsuc n) h = omega arith
 
-no-zero-product : (m n : ℕ) → m * n ≡ 0 → (m ≡ 0) ⊎ (n ≡ 0)
-no-zero-product zero n h = inl refl
-no-zero-product (suc m) zero h = inr refl
-no-zero-product (suc m) (suc n) h =
-    absurd (let p : 1 * 1 ≤ suc m * suc n = mul-le-mul {n₁ = 1} {m₁ = 1} (omega arith) (omega arith) in omega arith)
-
 pub no-zero-divisors : (a b : ℤ) → a *ℤ b ≡ pos 0 → (a ≡ pos 0) ⊎ (b ≡ pos 0)
-no-zero-divisors a b h = elim (no-zero-product (natAbs a) (natAbs b) (sym (natAbs-mul a b) ∙ ap natAbs h)) [ inl e ↦ inl (zero-from-size a e) | inr e ↦ inr (zero-from-size b e) ]
-
-one-from-product : (m n : ℕ) → m * n ≡ 1 → m ≡ 1
-one-from-product zero n h = absurd (omega (arith, zero-mul n))
-one-from-product (suc zero) n h = refl
-one-from-product (suc (suc m)) zero h = absurd (omega (arith, mul-zero (suc (suc m))))
-one-from-product (suc (suc m)) (suc n) h =
-    absurd (let p : 2 * 1 ≤ suc (suc m) * suc n = mul-le-mul {n₁ = 2} {m₁ = 1} (omega arith) (omega arith) in omega arith)
+no-zero-divisors a b h = elim (zero-product (natAbs a) (natAbs b) (sym (natAbs-mul a b) ∙ ap natAbs h)) [ inl e ↦ inl (zero-from-natAbs a e) | inr e ↦ inr (zero-from-natAbs b e) ]
 
 pub unit-size : (u : ℤ) → Invertible ℤ-ops u → natAbs u ≡ 1
-unit-size u v = one-from-product (natAbs u) (natAbs (v .0)) (sym (natAbs-mul u (v .0)) ∙ ap natAbs (v .1))
+unit-size u v = one-product (natAbs u) (natAbs (v .0)) (sym (natAbs-mul u (v .0)) ∙ ap natAbs (v .1))
 
 pub unit-from-size : (u : ℤ) → natAbs u ≡ 1 → Invertible ℤ-ops u
 unit-from-size (pos n) e = (pos 1, omega (arith, ints))

@@ -7,7 +7,8 @@ use lib.IntN.{ℤ, natAbs, _*ℤ_}
 use mir.Syntax.{w64, w128}
 use mir.Val.{SFits, toZ, ofZ}
 use Rattle.std.proofs.shelf.Signed.{ints, toZ-ofZ}
-use Rattle.ring.proofs.Limits.{back, natAbs-mul}
+use Rattle.algebra.proofs.Whole.{natAbs-mul}
+use Rattle.ring.proofs.Limits.{back}
 
 pub wide-fits : (z : ℤ) → natAbs z ≤ 2 ^ 126 → SFits w128 z
 wide-fits z h = omega (arith, ints)

@@ -1,1 +1,3 @@
 pub mod Division
+pub mod Basis
+pub mod Numbering

@@ -1,14 +1,16 @@
 //! Canonical elements: the one of an element's associates, and those of a norm by number.
 ghost use Prim.Native.Nat.{_*_, _+_, _-_, _<_, _^_, _≤_};
-ghost use Rattle.planes.specs.Planes.{Turned, axes, canonical-of, near, pair, plane, point, turn};
+ghost use Rattle.planes.specs.Planes.{Turned, axes, canonical-of, near, pair, plane, point, sector, turn};
 ghost use Rattle.ring.specs.Answers.{modulus-check};
 ghost use Rattle.ring.specs.Elements.{Within, element, reach};
 ghost use Rattle.std.specs.Options.{mapped};
+ghost use Rattle.std.specs.Vec.{made};
 ghost use Rattle.std.specs.shelf.Lists.{kept-by};
 ghost use Rattle.std.specs.shelf.Maps.{nth};
 ghost use lib.IntN.{natAbs, pos};
 ghost use lib.ListN.{length, take};
 ghost use lib.Signed.{_≤ℤ_};
+ghost use mathlib.Core.Bool.{true};
 ghost use mathlib.Core.Path.{_≡_};
 use super::norms::in_sector;
 use super::norms::norm_of;
@@ -54,7 +56,8 @@ pub(super) fn to_sector(p: Plane, e: Element) -> Element
 
 /// Refuses a modulus that is 0 or not canonical.
 pub(super) fn check_modulus(p: Plane, m: Element) -> Result<(), Refusal>
-    ensures { λ r. ⌜ r ≡ modulus-check (plane p) m ⌝ }
+    ensures value { λ r. ⌜ r ≡ modulus-check (plane p) m ⌝ }
+    ensures inside { λ r. ⌜ made r (λ _. sector p (pair (m .x) (m .y)) ≡ true) ⌝ }
 {
     if in_sector(p, m) {
         Ok(())

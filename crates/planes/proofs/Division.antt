@@ -17,7 +17,7 @@ use Rattle.algebra.proofs.Floor.{Floor, floor}
 use Rattle.algebra.proofs.Integers.{ℤ-ring}
 use Rattle.algebra.proofs.Quadratic.{quad-ring}
 use Rattle.algebra.proofs.Quote.{ring, quote, quoteℤ}
-use Rattle.ring.proofs.Limits.{natAbs-mul}
+use Rattle.algebra.proofs.Whole.{natAbs-add, natAbs-mul}
 use Rattle.planes.specs.declared.Plane.{Plane}
 use Rattle.planes.specs.declared.Plane.the-variants.{Square, Hexagonal}
 use Rattle.planes.specs.Planes.{Nearest, left-over, norm, over, pair, plane, trace}
@@ -28,9 +28,6 @@ arithmetic p = quad-ops ℤ-ops (negsuc 0) (trace p)
 
 form-apart : (t e f : ℤ) → norm-form ℤ-ops (negsuc 0) t (pair e f) ≡ e *ℤ e +ℤ f *ℤ f +ℤ t *ℤ (e *ℤ f)
 form-apart t e f = ring ℤ-ring (t ∷ e ∷ f ∷ []) (λ k. search quoteℤ depth 9) (λ k. search quoteℤ depth 9) refl
-
-natAbs-add : (x y : ℤ) → natAbs (x +ℤ y) ≤ natAbs x + natAbs y
-natAbs-add x y = omega (arith, ints)
 
 trace-small : (p : Plane) (n : ℕ) → natAbs (trace p) * n ≤ n
 trace-small Square n = omega arith

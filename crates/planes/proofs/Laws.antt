@@ -6,6 +6,7 @@ use native.Mathlib.Nat.{pos-of-ne-zero}
 use native.Mathlib.Omega.{arith}
 use lib.Dec.{lit≤}
 use lib.IntN.{ℤ, pos, negsuc, natAbs}
+use Rattle.algebra.proofs.Whole.{zero-product}
 use Rattle.algebra.specs.Euclidean.{EuclideanLaws, Modulus}
 use Rattle.algebra.specs.Quadratic.{Quad}
 use Rattle.ring.specs.Elements.{Mild}
@@ -23,11 +24,6 @@ use Rattle.planes.proofs.Units.{norm-unit, unit-from-norm, unit-listed, units,
 mild : (p : Plane) → Mild (axes p)
 mild Square = (lit≤ tt, lit≤ tt)
 mild Hexagonal = (lit≤ tt, lit≤ tt)
-
-zero-product : (m n : ℕ) → m * n ≡ 0 → (m ≡ 0) ⊎ (n ≡ 0)
-zero-product zero n h = inl refl
-zero-product (suc m) zero h = inr refl
-zero-product (suc m) (suc n) h = absurd (omega (arith, h))
 
 pub positive-norm : (p : Plane) (a : Quad ℤ) → (a ≡ pair (pos 0) (pos 0) → ⊥) → 0 < norm p a
 positive-norm p a apart = pos-of-ne-zero (λ e. apart (zero-from-norm p a e))

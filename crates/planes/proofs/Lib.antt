@@ -6,6 +6,7 @@ pub mod Units
 pub mod Sectors
 pub mod Canonical
 pub mod Residues
+pub mod Numbering
 pub mod Checks
 pub mod Numbers
 pub mod Laws

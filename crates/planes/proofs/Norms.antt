@@ -11,7 +11,7 @@ use Rattle.algebra.specs.Quadratic.{Quad, quad-ops, conjugate, norm-form}
 use Rattle.algebra.proofs.Integers.{ℤ-ring}
 use Rattle.algebra.proofs.Quadratic.{quadratic}
 use Rattle.algebra.proofs.Quote.{ring, quoteℤ}
-use Rattle.ring.proofs.Limits.{natAbs-mul}
+use Rattle.algebra.proofs.Whole.{natAbs-mul, zero-from-natAbs}
 use Rattle.planes.specs.declared.Plane.{Plane}
 use Rattle.planes.specs.declared.Plane.the-variants.{Square, Hexagonal}
 use Rattle.planes.specs.Planes.{norm, pair, span, trace}
@@ -88,11 +88,7 @@ module _ (p : Plane) (z : Quad ℤ) where
   re-span = subst (λ (n : ℕ). natAbs (z .re) ≤ span n) (ap natAbs (form-swap (trace p) (z .im) (z .re))) (im-span p (pair (z .im) (z .re)))
 
   pub zero-from-norm : norm p z ≡ 0 → z ≡ pair (pos 0) (pos 0)
-  zero-from-norm h = λ i. pair (nothing (z .re) (omega (arith, re-bound, h)) i) (nothing (z .im) (omega (arith, im-bound p z, h)) i)
-    where
-      nothing : (x : ℤ) → natAbs x ≡ 0 → x ≡ pos 0
-      nothing (pos n) e = ap pos e
-      nothing (negsuc n) e = absurd (omega (arith, e))
+  zero-from-norm h = λ i. pair (zero-from-natAbs (z .re) (omega (arith, re-bound, h)) i) (zero-from-natAbs (z .im) (omega (arith, im-bound p z, h)) i)
 
 pub norm-mul : (p : Plane) (z w : Quad ℤ) → norm p (quad-ops ℤ-ops (negsuc 0) (trace p) .mul z w) ≡ norm p z * norm p w
 norm-mul p z w = ap natAbs (quadratic ℤ-ring (negsuc 0) (trace p) .norm-form-mul z w) ∙ natAbs-mul (form p z) (form p w)

@@ -25,7 +25,7 @@ use Rattle.algebra.proofs.Integers.{ℤ-ring}
 use Rattle.algebra.proofs.Once.{map-counting-listed, nth-map-counting}
 use Rattle.algebra.proofs.Quadratic.{quad-ring}
 use Rattle.algebra.proofs.Quote.{ring, quote, quoteℤ}
-use Rattle.ring.proofs.Limits.{natAbs-mul}
+use Rattle.algebra.proofs.Whole.{natAbs-mul, zero-from-natAbs, zero-product}
 use Rattle.planes.specs.declared.Plane.{Plane}
 use Rattle.planes.specs.Planes.{content, norm, pair, residues, trace, width}
 use Rattle.planes.proofs.Division.{arithmetic, times-whole}
@@ -71,15 +71,11 @@ gcd-signed x y g i =
 
 -- a multiple of g that is smaller than g is 0
 pub small-multiple : (z k : ℤ) (g : ℕ) → z ≡ k *ℤ pos g → natAbs z < g → z ≡ pos 0
-small-multiple z k g e h = nothing z (less (natAbs z) (natAbs k) g (ap natAbs e ∙ natAbs-mul k (pos g)) h)
+small-multiple z k g e h = zero-from-natAbs z (less (natAbs z) (natAbs k) g (ap natAbs e ∙ natAbs-mul k (pos g)) h)
   where
     less : (a b c : ℕ) → a ≡ b * c → a < c → a ≡ 0
     less a zero c e h = omega (arith, e)
     less a (suc b) c e h = absurd (omega (arith, e, h))
-
-    nothing : (x : ℤ) → natAbs x ≡ 0 → x ≡ pos 0
-    nothing (pos n) e = ap pos e
-    nothing (negsuc n) e = absurd (omega (arith, e))
 
 module _ {A : Type 0} {o : Ops A} (R : CommRing o) where
   bring-out : (c m g : A) → o .mul c (o .mul m g) ≡ o .mul (o .mul m c) g
@@ -255,17 +251,8 @@ module _ (p : Plane) (m : Quad ℤ) (nonzero : 0 < norm p m) where
       below a b zero h k = absurd (omega (arith, k))
       below a b (suc n) h k = let l = mul-le-mul h (le-refl (suc n)) in omega (arith, l)
 
-      zero-factor : (a n : ℕ) → 0 < n → a * n ≡ 0 → a ≡ 0
-      zero-factor zero n h e = refl
-      zero-factor (suc a) zero h e = absurd (omega (arith, h))
-      zero-factor (suc a) (suc n) h e = absurd (omega (arith, e))
-
-      nothing : (x : ℤ) → natAbs x ≡ 0 → x ≡ pos 0
-      nothing (pos n) e = ap pos e
-      nothing (negsuc n) e = absurd (omega (arith, e))
-
       no-factor : (x : ℤ) (n : ℕ) → 0 < n → x *ℤ pos n ≡ pos 0 → x ≡ pos 0
-      no-factor x n h e = nothing x (zero-factor (natAbs x) n h (sym (natAbs-mul x (pos n)) ∙ ap natAbs e))
+      no-factor x n h e = zero-from-natAbs x (⊎-elim (λ z. z) (λ z. absurd (omega (arith, z, h))) (zero-product (natAbs x) n (sym (natAbs-mul x (pos n)) ∙ ap natAbs e)))
 
   pub residue-unique : (i j : ℕ) (r s : Quad ℤ) → nth (residues p m) i ≡ Some r → nth (residues p m) j ≡ Some s → Congruent (arithmetic p) m r s → i ≡ j
   residue-unique i j r s h k d =

@@ -8,6 +8,7 @@ use lib.IntN.{ℤ, pos, negsuc, natAbs}
 use lib.ListN.{length}
 use Rattle.std.specs.shelf.Maps.{nth}
 use Rattle.std.specs.declared.option.Option.the-variants.{Some}
+use Rattle.algebra.proofs.Whole.{one-product}
 use Rattle.algebra.specs.Integers.{ℤ-ops}
 use Rattle.algebra.specs.Divisors.{Invertible}
 use Rattle.algebra.specs.Euclidean.{Listed}
@@ -28,18 +29,12 @@ pub units-few : (p : Plane) → length (units p) ≤ 6
 units-few Square = omega arith
 units-few Hexagonal = omega arith
 
-product-one : (m n : ℕ) → m * n ≡ 1 → m ≡ 1
-product-one zero n h = absurd (omega (arith, h))
-product-one (suc zero) n h = refl
-product-one (suc (suc m)) zero h = absurd (omega (arith, h))
-product-one (suc (suc m)) (suc n) h = absurd (omega (arith, h))
-
 pub norm-one : (p : Plane) → norm p (pair (pos 1) (pos 0)) ≡ 1
 norm-one Square = refl
 norm-one Hexagonal = refl
 
 pub norm-unit : (p : Plane) (u : Quad ℤ) → Invertible (arithmetic p) u → norm p u ≡ 1
-norm-unit p u i = product-one (norm p u) (norm p (i .0)) (sym (norm-mul p u (i .0)) ∙ ap (norm p) (i .1) ∙ norm-one p)
+norm-unit p u i = one-product (norm p u) (norm p (i .0)) (sym (norm-mul p u (i .0)) ∙ ap (norm p) (i .1) ∙ norm-one p)
 
 pub unit-from-norm : (p : Plane) (u : Quad ℤ) → norm p u ≡ 1 → Invertible (arithmetic p) u
 unit-from-norm p u h = (conjugate ℤ-ops (negsuc 0) (trace p) u, mul-conjugate-is-norm p u ∙ ap (λ (n : ℕ). pair (pos n) (pos 0)) h)

@@ -7,20 +7,11 @@ use lib.IntN.{ℤ, pos, negsuc, negℤ, natAbs, _*ℤ_, _+ℤ_, _-ℤ_}
 use mir.Syntax.{w64}
 use mir.Val.{SFits, toZ, ofZ}
 use Rattle.std.proofs.shelf.Signed.{ints, toZ-ofZ}
+use Rattle.algebra.proofs.Whole.{natAbs-mul}
 use Rattle.ring.specs.declared.elements.Element.{Element}
 use Rattle.ring.specs.declared.elements.Coordinates.{Coordinates}
 use Rattle.ring.specs.declared.elements.Coordinates.the-variants.{One, Two}
 use Rattle.ring.specs.Elements.{element, ops, value}
-
-natAbs-neg : (n : ℕ) → natAbs (negℤ (pos n)) ≡ n
-natAbs-neg zero = refl
-natAbs-neg (suc n) = refl
-
-pub natAbs-mul : (a b : ℤ) → natAbs (a *ℤ b) ≡ natAbs a * natAbs b
-natAbs-mul (pos a) (pos b) = refl
-natAbs-mul (pos a) (negsuc b) = natAbs-neg (a * suc b)
-natAbs-mul (negsuc a) (pos b) = natAbs-neg (suc a * b)
-natAbs-mul (negsuc a) (negsuc b) = refl
 
 pub fits : (z : ℤ) → natAbs z ≤ 2 ^ 62 → SFits w64 z
 fits z h = omega (arith, ints)
