@@ -11,7 +11,7 @@ use std::fmt;
 /// Why a call was refused.
 #[derive(Clone, Copy, PartialEq, Eq, Debug)]
 pub enum Cause {
-    /// A line without its key, `=` or end, missing or surplus.
+    /// A line that lacks its key, its `=` or its end, that is missing, or that is one too many.
     Line,
     /// A value that is malformed, out of range or against a rule of the text.
     Value,
