@@ -1,4 +1,4 @@
--- The number of each cause, as the documents list it.
+-- The number of each cause, as docs/refusals.md lists it.
 use Prim.Native.Nat.{ℕ}
 use Rattle.std.specs.declared.result.Result.{Result}
 use Rattle.std.specs.declared.result.Result.the-variants.{Ok, Err}

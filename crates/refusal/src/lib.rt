@@ -1,7 +1,9 @@
 //! Every refusal of the catalogue: one closed list of causes, each with its number, and a place.
 ghost use mathlib.Core.Path.{_≡_};
-ghost use Prim.Native.Nat.{_≤_};
 ghost use Rattle.refusal.specs.Numbers.{number, refused};
+ghost use Rattle.refusal.specs.Report.{report};
+ghost use Rattle.refusal.specs.declared.Cause.the-variants.{Memory};
+ghost use Rattle.std.specs.declared.option.Option.the-variants.{Some};
 use std::alloc::AllocError;
 use std::alloc::Refused;
 use std::fmt;
@@ -9,7 +11,7 @@ use std::fmt;
 /// Why a call was refused.
 #[derive(Clone, Copy, PartialEq, Eq, Debug)]
 pub enum Cause {
-    /// A line without its key, `=` or end, missing or surplus.
+    /// A line that lacks its key, its `=` or its end, that is missing, or that is one too many.
     Line,
     /// A value that is malformed, out of range or against a rule of the text.
     Value,
@@ -58,7 +60,7 @@ pub enum Cause {
 }
 
 impl Cause {
-    /// The number under which the documents list the cause; 0 for want of memory.
+    /// The number under which docs/refusals.md lists the cause; 0 for want of memory.
     pub fn number(self) -> u8
         ensures { λ r. ⌜ r ≡ number self ⌝ }
     {
@@ -107,19 +109,25 @@ impl Refusal {
 }
 
 pub impl From<AllocError> for Refusal as FromAllocError {
+    ghost converts = { λ _ r. r ≡ refused Memory 0 };
+
     fn from(_: AllocError) -> Refusal {
         Refusal::of(Cause::Memory)
     }
 }
 
 pub impl<T: Drop> From<Refused<T>> for Refusal as FromRefused {
+    ghost converts = { λ _ r. r ≡ refused Memory 0 };
+
     fn from(_: Refused<T>) -> Refusal {
-        Refusal::of(Cause::Memory)
+        Refusal::from(AllocError)
     }
 }
 
 /// The two lines by which a program reports the refusal, the last without its end.
 pub impl fmt::Display for Refusal as RefusalDisplay {
+    ghost shown = { λ e. Some (report e) };
+
     fn fmt<W: fmt::Write>(&self, f: &mut fmt::Formatter<W>) -> fmt::Result {
         let number = self.cause.number();
         let place = self.place;
