@@ -1,0 +1,8 @@
+//! Texts of lines `key=value`: their numbers, coordinates and elements, and the request that a program reads.
+mod parts;
+mod values;
+
+pub use parts::cut;
+pub use values::coordinate;
+pub use values::element;
+pub use values::number;
