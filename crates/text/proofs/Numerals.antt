@@ -5,18 +5,25 @@ use mathlib.Core.Logic.{_⊎_, ⊎-elim}
 use mathlib.Core.List.{List, [], _∷_, _++_}
 use Prim.Native.Nat.{ℕ, zero, suc, _+_, _-_, _*_, _^_, _<_, _≤_}
 use native.Mathlib.Omega.{arith}
-use lib.ListN.{length, getD, take, length-take}
+use lib.Dec.{eqb}
+use lib.IntN.{pos, _-ℤ_}
+use lib.ListN.{length, getD, take, drop, length-take}
+use mir.Syntax.{w64}
+use mir.Val.{toZ, ofZ}
 use Rattle.std.specs.Reads.{value}
 use Rattle.std.specs.Text.{In, Out, digitValue}
 use Rattle.std.specs.Vec.{made}
 use Rattle.std.specs.shelf.Text.{allDigits}
+use Rattle.std.specs.declared.result.Result.{Result}
 use Rattle.std.specs.declared.result.Result.the-variants.{Ok, Err}
 use Rattle.std.proofs.shelf.Digits.{digits-more, value-more}
 use Rattle.std.proofs.shelf.Numerals.{Numerals, numerals-by-value, tells-allDigits, digit-at, value-short}
-use Rattle.std.proofs.shelf.Tests.{cases-bool, cond-true, cond-false, cond-both}
+use Rattle.std.proofs.shelf.Tests.{cases-bool, cond-true, cond-false, cond-both, eq-eqb, ne-eqb}
 use Rattle.std.proofs.shelf.Ways.{tells}
+use Rattle.std.proofs.shelf.Signed.{ints}
+use Rattle.refusal.specs.declared.Cause.{Cause}
 use Rattle.refusal.specs.declared.Cause.the-variants.{Value}
-use Rattle.text.specs.Values.{digits-answer}
+use Rattle.text.specs.Values.{digits-answer, number-answer, coordinate-answer, negated, natural, next}
 
 pub own : Numerals (λ ds. allDigits ds ≡ true) (value 10)
 own = numerals-by-value _ tells-allDigits
@@ -44,3 +51,14 @@ no-number bs i l out =
 
 pub digits-bound : (bs : List ℕ) (k : ℕ) → length bs ≤ k → made (digits-answer bs) (λ n. n < 10 ^ k)
 digits-bound bs k l = cond-both (allDigits bs) _ _ (λ r. made r (λ n. n < 10 ^ k)) (λ p. value-short own bs k p l) (λ p. tt)
+
+-- the two shapes of a coordinate
+pub with-minus : (bs rest : List ℕ) (r : Result ℕ Cause) → getD bs 0 0 ≡ 45 → rest ≡ drop 1 bs → r ≡ number-answer rest → next r negated ≡ coordinate-answer bs
+with-minus bs rest r m d e = ap (λ (q : Result ℕ Cause). next q negated) (e ∙ ap number-answer d) ∙ sym (cond-true (eqb (getD bs 0 0) 45) _ _ (eq-eqb _ 45 m))
+
+pub without-minus : (bs : List ℕ) (r : Result ℕ Cause) → (getD bs 0 0 ≡ 45 → ⊥) → r ≡ number-answer bs → next r natural ≡ coordinate-answer bs
+without-minus bs r m e = ap (λ (q : Result ℕ Cause). next q natural) e ∙ sym (cond-false (eqb (getD bs 0 0) 45) _ _ (ne-eqb _ 45 m))
+
+pub negated-is : (n : ℕ) → (n ≡ 0 → ⊥) → n < 10 ^ 15 → Ok (toZ w64 (ofZ w64 (pos 0 -ℤ toZ w64 n))) ≡ negated n
+negated-is zero h l = absurd (h refl)
+negated-is (suc n) h l = ap Ok (omega (arith, ints))

@@ -4,7 +4,7 @@ use mathlib.Core.List.{List, [], _∷_}
 use Prim.Native.Nat.{ℕ, zero, suc}
 use lib.Dec.{eqb, leb}
 use lib.IntN.{ℤ, pos, negsuc}
-use lib.ListN.{length}
+use lib.ListN.{length, getD, drop}
 use Rattle.std.specs.Reads.{value}
 use Rattle.std.specs.shelf.Text.{allDigits}
 use Rattle.std.specs.declared.result.Result.{Result}
@@ -51,8 +51,7 @@ abbrev pub natural : ℕ → Result ℤ Cause
 natural n = Ok (pos n)
 
 abbrev pub coordinate-answer : List ℕ → Result ℤ Cause
-coordinate-answer [] = Err Value
-coordinate-answer (b ∷ bs) = cond (eqb b 45) (next (number-answer bs) negated) (next (number-answer (b ∷ bs)) natural)
+coordinate-answer bs = cond (eqb (getD bs 0 0) 45) (next (number-answer (drop 1 bs)) negated) (next (number-answer bs) natural)
 
 -- x, or x and y on the sides of a colon
 abbrev pub element-answer : Coordinates → List ℕ → Result Element Cause
