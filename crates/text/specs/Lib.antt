@@ -1,2 +1,5 @@
 pub mod Parts
 pub mod Values
+pub mod Requests
+pub mod Keys
+pub mod Lines

@@ -1,5 +1,8 @@
 //! Texts of lines `key=value`: their numbers, coordinates and elements, and the request that a program reads.
 mod parts;
+mod reader;
+mod request;
+mod state;
 mod values;
 
 pub use parts::cut;

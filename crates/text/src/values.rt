@@ -4,10 +4,10 @@ ghost use Rattle.std.specs.Vec.{made};
 ghost use Rattle.text.specs.Values.{coordinate-answer, digits-answer, element-answer, number-answer};
 ghost use lib.ListN.{length};
 ghost use mathlib.Core.Path.{_≡_};
+use super::parts::cut;
 use refusal::Cause;
 use ring::Coordinates;
 use ring::Element;
-use super::parts::cut;
 
 /// The most digits of a number.
 const DIGITS: usize = 15;
