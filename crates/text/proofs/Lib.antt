@@ -1,3 +1,5 @@
 pub mod Cutting
 pub mod Numerals
 pub mod Entries
+pub mod Chains
+pub mod Course

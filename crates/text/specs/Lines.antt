@@ -2,7 +2,8 @@
 use mathlib.Core.Path.{_≡_}
 use mathlib.Core.Bool.{cond}
 use mathlib.Core.List.{List, [], _∷_}
-use Prim.Native.Nat.{ℕ, zero, suc, _≤_}
+use Prim.Native.Nat.{ℕ, zero, suc, _+_}
+use denote.Ref.{RefT}
 use lib.Dec.{leb}
 use lib.ListN.{length}
 use Rattle.std.specs.declared.result.Result.{Result}
@@ -62,6 +63,16 @@ placed n (Err cause) = Err (refused cause n)
 abbrev pub outcome : {E : Type 0} → Result (Unit {0}) E → State → List ℕ → Result (State × List ℕ) E
 outcome (Ok u) state text = Ok (state, text)
 outcome (Err e) state text = Err e
+
+-- the same of a state and a text that is borrowed
+abbrev pub seen : {E : Type 0} → Result (State × RefT (List ℕ)) E → Result (State × List ℕ) E
+seen (Ok (state, rest)) = Ok (state, rest .now)
+seen (Err e) = Err e
+
+-- a line that was read counts
+abbrev pub counted : {X E : Type 0} → Result X E → ℕ → ℕ
+counted (Ok x) n = n + 1
+counted (Err e) n = n
 
 -- nothing stands after the last line
 abbrev pub finished : ℕ → State → List ℕ → Result Request Refusal
