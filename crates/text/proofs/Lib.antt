@@ -3,3 +3,4 @@ pub mod Numerals
 pub mod Entries
 pub mod Chains
 pub mod Course
+pub mod Backward

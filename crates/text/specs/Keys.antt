@@ -11,5 +11,11 @@ use Rattle.refusal.specs.declared.Cause.the-variants.{Line}
 use Rattle.text.specs.declared.state.Key.{Key}
 use Rattle.text.specs.declared.state.Key.the-variants.{Ring, Rank, Matrix}
 
+abbrev pub key-written : Key → List ℕ
+key-written Ring = codes "ring"
+key-written Rank = codes "rank"
+key-written Matrix = codes "matrix"
+
 abbrev pub key-answer : List ℕ → Result Key Cause
-key-answer bs = cond (sameBytes bs (codes "ring")) (Ok Ring) (cond (sameBytes bs (codes "rank")) (Ok Rank) (cond (sameBytes bs (codes "matrix")) (Ok Matrix) (Err Line)))
+key-answer bs =
+    cond (sameBytes bs (key-written Ring)) (Ok Ring) (cond (sameBytes bs (key-written Rank)) (Ok Rank) (cond (sameBytes bs (key-written Matrix)) (Ok Matrix) (Err Line)))

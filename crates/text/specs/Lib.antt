@@ -3,3 +3,4 @@ pub mod Values
 pub mod Requests
 pub mod Keys
 pub mod Lines
+pub mod Written
