@@ -4,6 +4,7 @@ use mathlib.Core.Bool.{Bool, true, false, cond, not, _&&_}
 use mathlib.Core.Logic.{_⊎_, ⊎-elim}
 use mathlib.Core.List.{List, [], _∷_, _++_}
 use Prim.Native.Nat.{ℕ, zero, suc, _+_, _-_, _*_, _^_, _<_, _≤_}
+use native.Mathlib.Nat.{mul-le-mul}
 use native.Mathlib.Omega.{arith}
 use lib.Dec.{eqb, leb, lit<}
 use lib.IntN.{ℤ, pos, negsuc, natAbs}
@@ -21,6 +22,7 @@ use Rattle.std.proofs.shelf.Equals.{sameBytes-decides}
 use Rattle.std.proofs.shelf.Lists.{drop-at, take-at}
 use Rattle.std.proofs.shelf.Numerals.{value-short}
 use Rattle.std.proofs.shelf.Tests.{and-parts, eqb-true, leb-true, both-ways, not-true, eq-eqb}
+use Rattle.refusal.specs.Numbers.{refused}
 use Rattle.refusal.specs.declared.Cause.{Cause}
 use Rattle.refusal.specs.declared.Cause.the-variants.{Line, Value}
 use Rattle.ring.specs.declared.elements.Element.{Element}
@@ -28,16 +30,19 @@ use Rattle.ring.specs.declared.elements.Coordinates.{Coordinates}
 use Rattle.ring.specs.declared.elements.Coordinates.the-variants.{One, Two}
 use Rattle.text.specs.declared.request.RingName.{RingName}
 use Rattle.text.specs.declared.request.RingName.the-variants.{Integers, Gaussian, Eisenstein}
-use Rattle.text.specs.declared.request.Matrix.{Matrix}
+use Rattle.text.specs.declared.request.Matrix.{Matrix as Square}
+use Rattle.text.specs.declared.request.Request.{Request}
 use Rattle.text.specs.declared.state.State.{State}
+use Rattle.text.specs.declared.state.State.the-variants.{Ring, Rank, Matrix, Done}
 use Rattle.text.specs.declared.state.Key.{Key}
 use Rattle.text.specs.declared.state.Key.the-variants.{Ring as RingKey, Rank as RankKey, Matrix as MatrixKey}
 use Rattle.text.specs.Parts.{front, back}
 use Rattle.text.specs.Keys.{key-answer, key-written}
-use Rattle.text.specs.Requests.{elements, entries-answer, lettered, matrix-answer, padded, rank-answer, ranked, ring-answer, zero-element}
+use Rattle.text.specs.Lines.{entered, finished, line-answer, placed, read-answer, reading}
+use Rattle.text.specs.Requests.{coordinates-of, elements, entries-answer, lettered, matrix-answer, padded, rank-answer, ranked, ring-answer, zero-element}
 use Rattle.text.specs.Values.{begun, coordinate-answer, digits-answer, element-answer, given, natural, negated, next, number-answer}
-use Rattle.text.specs.Written.{Short, Writable, element-written, elements-written, line-written, ring-written}
-use Rattle.text.proofs.Chains.{Taken, cond-ok, given-ok, next-ok, no-fault, ranked-ok, same-ok}
+use Rattle.text.specs.Written.{Short, WellFormed, Writable, element-written, elements-written, line-written, ring-written, written}
+use Rattle.text.proofs.Chains.{Taken, cond-ok, given-ok, line-ok, next-ok, no-fault, ranked-ok, same-ok}
 use Rattle.text.proofs.Numerals.{own}
 
 -- a text is its two parts with the mark between them
@@ -162,6 +167,7 @@ key-back bs key h = go _ refl _ refl _ refl h
   where
     is : (k : Key) → sameBytes bs (key-written k) ≡ true → _≡_ {A = Result Key Cause} (Ok k) (Ok key) → bs ≡ key-written key
     is k e q = sameBytes-decides bs (key-written k) .0 e ∙ ap key-written (same-ok k key q)
+
     go : (r : Bool) → sameBytes bs (key-written RingKey) ≡ r → (s : Bool) → sameBytes bs (key-written RankKey) ≡ s → (t : Bool) → sameBytes bs (key-written MatrixKey) ≡ t → cond r (Ok RingKey) (cond s (Ok RankKey) (cond t (Ok MatrixKey) (Err Line))) ≡ Ok key → bs ≡ key-written key
     go true a s b t c q = is RingKey a q
     go false a true b t c q = is RankKey b q
@@ -175,11 +181,13 @@ ring-back bs r h =
   where
     is : (b c : ℕ) (s : RingName) → eqb b c ≡ true → _≡_ {A = Result RingName Cause} (Ok s) (Ok r) → c ∷ [] ≡ ring-written s → b ∷ [] ≡ ring-written r
     is b c s e q w = ap (λ (d : ℕ). d ∷ []) (eqb-true b c e) ∙ w ∙ ap ring-written (same-ok s r q)
+
     go : (b : ℕ) (x : Bool) → eqb b 90 ≡ x → (y : Bool) → eqb b 71 ≡ y → (z : Bool) → eqb b 69 ≡ z → cond x (Ok Integers) (cond y (Ok Gaussian) (cond z (Ok Eisenstein) (Err Value))) ≡ Ok r → b ∷ [] ≡ ring-written r
     go b true e y f z g q = is b 90 Integers e q refl
     go b false e true f z g q = is b 71 Gaussian f q refl
     go b false e false f true g q = is b 69 Eisenstein g q refl
     go b false e false f false g q = absurd (no-fault Value r q)
+
     one : (bs : List ℕ) → length bs ≡ 1 → lettered (getD bs 0 0) ≡ Ok r → bs ≡ ring-written r
     one [] l q = absurd (omega arith)
     one (b ∷ []) l q = go b _ refl _ refl _ refl q
@@ -192,14 +200,14 @@ rank-back bs n h =
     (number-back bs (p .value) (p .first) .0 ∙ ap decimal (sym (w .0)), w .1, w .2)
 
 -- a matrix as it stood
-pub record Laid (k : Coordinates) (n : ℕ) (bs : List ℕ) (m : Matrix) : Type 0 where
+pub record Laid (k : Coordinates) (n : ℕ) (bs : List ℕ) (m : Square) : Type 0 where
   pub rank : m .rank ≡ n
   pub bytes : bs ≡ elements-written k (take (n * n) (m .entries))
   pub nine : length (m .entries) ≡ 9
   pub each : All (Writable k) (take (n * n) (m .entries))
   pub zeros : drop (n * n) (m .entries) ≡ replicate (9 - n * n) zero-element
 
-pub matrix-back : (k : Coordinates) (n : ℕ) (bs : List ℕ) (m : Matrix) → n * n ≤ 9 → matrix-answer k n bs ≡ Ok m → Laid k n bs m
+pub matrix-back : (k : Coordinates) (n : ℕ) (bs : List ℕ) (m : Square) → n * n ≤ 9 → matrix-answer k n bs ≡ Ok m → Laid k n bs m
 matrix-back k n bs m l h =
     let p = next-ok (entries-answer k (n * n) bs) _ m h in
     let q = next-ok (elements k (n * n) (Some bs)) _ (p .value) (p .first) in
@@ -224,3 +232,116 @@ pub line-back : (s : State) (text : List ℕ) (t : State) (rest : List ℕ) (k :
 line-back s text t rest k =
     joined-at 10 text rest (k .ends)
     ∙ ap (λ (u : List ℕ). u ++ (10 ∷ rest)) (joined-at 61 (front 10 text) (k .value) (k .parts) ∙ ap (λ (u : List ℕ). u ++ (61 ∷ k .value)) (key-back (front 61 (front 10 text)) (k .key) (k .named)))
+
+placed-ok : {X : Type 0} (n : ℕ) (r : Result X Cause) (x : X) → placed n r ≡ Ok x → r ≡ Ok x
+placed-ok n (Ok y) x h = ap Ok (same-ok y x h)
+placed-ok n (Err c) x h = absurd (no-fault (refused c n) x h)
+
+-- the three lines as they stood
+pub record RingLine (text : List ℕ) (t : State) (rest : List ℕ) : Type 0 where
+  pub ring : RingName
+  pub is : t ≡ Rank ring
+  pub bytes : text ≡ line-written RingKey (ring-written ring) rest
+
+pub record RankLine (ring : RingName) (text : List ℕ) (t : State) (rest : List ℕ) : Type 0 where
+  pub rank : ℕ
+  pub is : t ≡ Matrix ring rank
+  pub bytes : text ≡ line-written RankKey (decimal rank) rest
+  pub low : 1 ≤ rank
+  pub high : rank ≤ 3
+
+pub record MatrixLine (ring : RingName) (rank : ℕ) (text : List ℕ) (t : State) (rest : List ℕ) : Type 0 where
+  pub matrix : Square
+  pub is : t ≡ Done (record { ring = ring; matrix = matrix })
+  pub value : List ℕ
+  pub bytes : text ≡ line-written MatrixKey value rest
+  pub laid : Laid (coordinates-of ring) rank value matrix
+
+ring-line : (text : List ℕ) (t : State) (rest : List ℕ) → line-answer Ring text ≡ Ok (t, rest) → RingLine text t rest
+ring-line text t rest h = let k = line-ok Ring text t rest h in go (k .key) (k .value) (k .says) (line-back Ring text t rest k)
+  where
+    go : (key : Key) (v : List ℕ) → entered Ring key v ≡ Ok t → text ≡ line-written key v rest → RingLine text t rest
+    go RingKey v e w =
+        let p = next-ok (ring-answer v) _ t e in
+        record { ring = p .value; is = sym (same-ok _ t (p .then)); bytes = w ∙ ap (λ (u : List ℕ). line-written RingKey u rest) (ring-back v (p .value) (p .first)) }
+    go RankKey v e w = absurd (no-fault Line t e)
+    go MatrixKey v e w = absurd (no-fault Line t e)
+
+rank-line : (ring : RingName) (text : List ℕ) (t : State) (rest : List ℕ) → line-answer (Rank ring) text ≡ Ok (t, rest) → RankLine ring text t rest
+rank-line ring text t rest h = let k = line-ok (Rank ring) text t rest h in go (k .key) (k .value) (k .says) (line-back (Rank ring) text t rest k)
+  where
+    go : (key : Key) (v : List ℕ) → entered (Rank ring) key v ≡ Ok t → text ≡ line-written key v rest → RankLine ring text t rest
+    go RingKey v e w = absurd (no-fault Line t e)
+    go RankKey v e w =
+        let p = next-ok (rank-answer v) _ t e in
+        let r = rank-back v (p .value) (p .first) in
+        record { rank = p .value; is = sym (same-ok _ t (p .then)); bytes = w ∙ ap (λ (u : List ℕ). line-written RankKey u rest) (r .0); low = r .1; high = r .2 }
+    go MatrixKey v e w = absurd (no-fault Line t e)
+
+matrix-line : (ring : RingName) (rank : ℕ) (text : List ℕ) (t : State) (rest : List ℕ) → rank * rank ≤ 9 → line-answer (Matrix ring rank) text ≡ Ok (t, rest) → MatrixLine ring rank text t rest
+matrix-line ring rank text t rest l h = let k = line-ok (Matrix ring rank) text t rest h in go (k .key) (k .value) (k .says) (line-back (Matrix ring rank) text t rest k)
+  where
+    go : (key : Key) (v : List ℕ) → entered (Matrix ring rank) key v ≡ Ok t → text ≡ line-written key v rest → MatrixLine ring rank text t rest
+    go RingKey v e w = absurd (no-fault Line t e)
+    go RankKey v e w = absurd (no-fault Line t e)
+    go MatrixKey v e w =
+        let p = next-ok (matrix-answer (coordinates-of ring) rank v) _ t e in
+        record { matrix = p .value; is = sym (same-ok _ t (p .then)); value = v; bytes = w; laid = matrix-back (coordinates-of ring) rank v (p .value) l (p .first) }
+
+finished-back : (n : ℕ) (q p : Request) (text : List ℕ) → finished n (Done q) text ≡ Ok p → (text ≡ []) × (q ≡ p)
+finished-back n q p [] h = (refl, same-ok q p h)
+finished-back n q p (b ∷ bs) h = absurd (no-fault (refused Line n) p h)
+
+-- what is left once the ring is known, and once the rank is
+record FromMatrix (ring : RingName) (rank : ℕ) (text : List ℕ) (q : Request) : Type 0 where
+  matrix : Square
+  value : List ℕ
+  request : record { ring = ring; matrix = matrix } ≡ q
+  bytes : text ≡ line-written MatrixKey value []
+  laid : Laid (coordinates-of ring) rank value matrix
+
+from-matrix : (ring : RingName) (rank : ℕ) (text : List ℕ) (q : Request) → rank * rank ≤ 9 → reading 1 3 (Matrix ring rank) text ≡ Ok q → FromMatrix ring rank text q
+from-matrix ring rank text q l h =
+    let b = next-ok (placed 3 (line-answer (Matrix ring rank) text)) _ q h in
+    let k = matrix-line ring rank text (b .value .0) (b .value .1) l (placed-ok 3 _ (b .value) (b .first)) in
+    let f = finished-back 4 (record { ring = ring; matrix = k .matrix }) q (b .value .1) (subst (λ (s : State). finished 4 s (b .value .1) ≡ Ok q) (k .is) (b .then)) in
+    record { matrix = k .matrix; value = k .value; request = f .1; bytes = k .bytes ∙ ap (line-written MatrixKey (k .value)) (f .0); laid = k .laid }
+
+record FromRank (ring : RingName) (text : List ℕ) (q : Request) : Type 0 where
+  rank : ℕ
+  low : 1 ≤ rank
+  high : rank ≤ 3
+  rest : List ℕ
+  bytes : text ≡ line-written RankKey (decimal rank) rest
+  then : FromMatrix ring rank rest q
+
+from-rank : (ring : RingName) (text : List ℕ) (q : Request) → reading 2 2 (Rank ring) text ≡ Ok q → FromRank ring text q
+from-rank ring text q h =
+    let b = next-ok (placed 2 (line-answer (Rank ring) text)) _ q h in
+    let k = rank-line ring text (b .value .0) (b .value .1) (placed-ok 2 _ (b .value) (b .first)) in
+    record {
+      rank = k .rank;
+      low = k .low;
+      high = k .high;
+      rest = b .value .1;
+      bytes = k .bytes;
+      then = from-matrix ring (k .rank) (b .value .1) q (mul-le-mul (k .high) (k .high)) (subst (λ (s : State). reading 1 3 s (b .value .1) ≡ Ok q) (k .is) (b .then));
+    }
+
+-- from the lines to the request
+module _ (ring : RingName) (m : Square) (value text : List ℕ) where
+  request-back : (rank : ℕ) → 1 ≤ rank → rank ≤ 3 → Laid (coordinates-of ring) rank value m → text ≡ line-written RingKey (ring-written ring) (line-written RankKey (decimal rank) (line-written MatrixKey value [])) → (text ≡ written (record { ring = ring; matrix = m })) × WellFormed (record { ring = ring; matrix = m })
+  request-back rank low high laid w =
+      let e = sym (laid .rank) in
+      let laid′ : Laid (coordinates-of ring) (m .rank) value m = subst (λ (n : ℕ). Laid (coordinates-of ring) n value m) e laid in
+      (w ∙ ap₂ (λ (n : ℕ) (v : List ℕ). line-written RingKey (ring-written ring) (line-written RankKey (decimal n) (line-written MatrixKey v []))) e (laid′ .bytes), record { rank-low = subst (λ (n : ℕ). 1 ≤ n) e low; rank-high = subst (λ (n : ℕ). n ≤ 3) e high; nine = laid .nine; entries = laid′ .each; zeros = laid′ .zeros })
+
+pub read-back : (text : List ℕ) (q : Request) → read-answer text ≡ Ok q → (text ≡ written q) × WellFormed q
+read-back text q h =
+    let a = cond-ok (leb (length text) 16384) (reading 3 1 Ring text) (refused Line 0) q h in
+    let b = next-ok (placed 1 (line-answer Ring text)) _ q (a .then) in
+    let k = ring-line text (b .value .0) (b .value .1) (placed-ok 1 _ (b .value) (b .first)) in
+    let r = from-rank (k .ring) (b .value .1) q (subst (λ (s : State). reading 2 2 s (b .value .1) ≡ Ok q) (k .is) (b .then)) in
+    let m = r .then in
+    let w = k .bytes ∙ ap (line-written RingKey (ring-written (k .ring))) (r .bytes ∙ ap (line-written RankKey (decimal (r .rank))) (m .bytes)) in
+    subst (λ (p : Request). (text ≡ written p) × WellFormed p) (m .request) (request-back (k .ring) (m .matrix) (m .value) text (r .rank) (r .low) (r .high) (m .laid) w)
