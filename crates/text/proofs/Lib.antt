@@ -4,3 +4,4 @@ pub mod Entries
 pub mod Chains
 pub mod Course
 pub mod Backward
+pub mod Forward

