@@ -1,19 +1,18 @@
 -- What the calls of a ring tell of a lattice of rank 1.
 use mathlib.Core.Path.{_≡_, refl, sym, ap, subst, _∙_}
 use mathlib.Core.Bool.{Bool, true, false, cond, _&&_}
-use Prim.Native.Nat.{ℕ, _*_, _+_, _≤_, _<_, _^_}
+use Prim.Native.Nat.{ℕ, _*_, _≤_, _<_}
 use native.Mathlib.Nat.{one-mul}
 use native.Mathlib.Omega.{arith}
 use lib.Dec.{leb, lit≤}
 use lib.IntN.{pos, natAbs}
-use lib.ListN.{length}
 use Rattle.std.specs.Options.{okOr}
 use Rattle.std.specs.shelf.Maps.{nth}
 use Rattle.std.specs.declared.option.Option.{Option}
-use Rattle.std.specs.declared.option.Option.the-variants.{Some, None}
+use Rattle.std.specs.declared.option.Option.the-variants.{Some}
 use Rattle.std.specs.declared.result.Result.{Result}
 use Rattle.std.specs.declared.result.Result.the-variants.{Ok, Err}
-use Rattle.std.proofs.shelf.Tests.{and-from, and-parts, cond-true, cond-false, le-leb, leb-true, lt-leb, both-ways}
+use Rattle.std.proofs.shelf.Tests.{and-from, and-parts, cond-true, cond-false, le-leb, leb-true, lt-leb}
 use Rattle.refusal.specs.declared.Refusal.{Refusal}
 use Rattle.refusal.specs.declared.Cause.{Cause}
 use Rattle.refusal.specs.declared.Cause.the-variants.{Coordinate, Singular, Outside}
@@ -23,11 +22,10 @@ use Rattle.algebra.specs.Euclidean.{Canonical}
 use Rattle.ring.specs.declared.elements.Element.{Element}
 use Rattle.ring.specs.declared.elements.Coordinates.{Coordinates}
 use Rattle.ring.specs.declared.elements.Coordinates.the-variants.{One, Two}
-use Rattle.ring.specs.Elements.{Carrier, Member, Within, admits, admitted, element, ops, reach, same, value}
+use Rattle.ring.specs.Elements.{Member, Within, admits, admitted, element, ops, reach, same, value}
 use Rattle.ring.specs.Answers.{CanonicalAnswer, Meets, canonical-number-answer, canonical-place, count-answer, is-zero, norm-answer, norm-check, norm-of, one-check}
 use Rattle.ring.specs.Meaning.{Laws, Meaning}
 use Rattle.ring.proofs.Places.{nth-place, place-listed, same-refl, same-true, same-zero, zero-same}
-use Rattle.location.specs.declared.Location.{Location}
 use Rattle.location.specs.Located.{LocatedAt, Located, entry-check, index-check, location-check, singular-check}
 
 no-fault : {X E : Type 0} (e : E) (x : X) → Err e ≡ Ok x → ⊥

@@ -1,7 +1,6 @@
 -- What a lattice of rank 1 is located by.
 use mathlib.Core.Path.{_≡_}
 use mathlib.Core.Bool.{cond}
-use Prim.Native.Nat.{ℕ}
 use lib.Dec.{leb}
 use lib.ListN.{length}
 use Rattle.std.specs.shelf.Maps.{nth}

@@ -1,13 +1,12 @@
 -- What is read was written.
 use mathlib.Core.Path.{_≡_, refl, sym, ap, ap₂, subst, _∙_}
-use mathlib.Core.Bool.{Bool, true, false, cond, not, _&&_}
-use mathlib.Core.Logic.{_⊎_, ⊎-elim}
+use mathlib.Core.Bool.{Bool, true, false, cond, _&&_}
 use mathlib.Core.List.{List, [], _∷_, _++_}
-use Prim.Native.Nat.{ℕ, zero, suc, _+_, _-_, _*_, _^_, _<_, _≤_}
+use Prim.Native.Nat.{ℕ, zero, suc, _-_, _*_, _^_, _<_, _≤_}
 use native.Mathlib.Nat.{mul-le-mul}
 use native.Mathlib.Omega.{arith}
 use lib.Dec.{eqb, leb, lit<}
-use lib.IntN.{ℤ, pos, negsuc, natAbs}
+use lib.IntN.{ℤ, pos, negsuc}
 use lib.ListN.{length, getD, take, drop, replicate, length-append, length-replicate}
 use Rattle.std.specs.Written.{decimal, signed}
 use Rattle.std.specs.shelf.Lists.{All}
@@ -40,7 +39,7 @@ use Rattle.text.specs.Parts.{front, back}
 use Rattle.text.specs.Keys.{key-answer, key-written}
 use Rattle.text.specs.Lines.{entered, finished, line-answer, placed, read-answer, reading}
 use Rattle.text.specs.Requests.{coordinates-of, elements, entries-answer, lettered, matrix-answer, padded, rank-answer, ranked, ring-answer, zero-element}
-use Rattle.text.specs.Values.{begun, coordinate-answer, digits-answer, element-answer, given, natural, negated, next, number-answer}
+use Rattle.text.specs.Values.{begun, coordinate-answer, digits-answer, element-answer, natural, negated, next, number-answer}
 use Rattle.text.specs.Written.{Short, WellFormed, Writable, element-written, elements-written, line-written, ring-written, written}
 use Rattle.text.proofs.Chains.{Taken, cond-ok, given-ok, line-ok, next-ok, no-fault, ranked-ok, same-ok}
 use Rattle.text.proofs.Numerals.{own}

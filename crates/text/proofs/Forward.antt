@@ -1,24 +1,22 @@
 -- What is written is read.
-use mathlib.Core.Path.{_≡_, refl, sym, ap, ap₂, subst, _∙_}
-use mathlib.Core.Bool.{Bool, true, false, cond, not, _&&_}
+use mathlib.Core.Path.{_≡_, refl, sym, ap, subst, _∙_}
+use mathlib.Core.Bool.{true, false, not}
 use mathlib.Core.Logic.{_⊎_, inl, inr, ⊎-elim}
-use mathlib.Core.List.{List, [], _∷_, _++_, append-assoc}
+use mathlib.Core.List.{List, [], _∷_, _++_}
 use Prim.Native.Nat.{ℕ, zero, suc, _+_, _-_, _*_, _^_, _<_, _≤_}
 use native.Mathlib.Nat.{mul-le-mul}
 use native.Mathlib.Omega.{arith}
-use lib.Dec.{eqb, leb, lit<, lit≤}
-use lib.IntN.{ℤ, pos, negsuc, natAbs}
+use lib.Dec.{eqb, lit<, lit≤}
+use lib.IntN.{ℤ, pos, negsuc}
 use lib.Signed.{mag}
-use lib.ListN.{length, getD, take, drop, replicate, length-append, length-replicate, take-append-drop}
+use lib.ListN.{length, getD, take, drop, replicate, length-append, take-append-drop}
 use Rattle.std.specs.Text.{In}
 use Rattle.std.specs.Written.{decimal, signed}
 use Rattle.std.specs.shelf.Lists.{All}
-use Rattle.std.specs.shelf.Text.{allDigits, sameBytes}
 use Rattle.std.specs.Reads.{value}
-use Rattle.std.specs.declared.option.Option.{Option}
 use Rattle.std.specs.declared.option.Option.the-variants.{Some, None}
 use Rattle.std.specs.declared.result.Result.{Result}
-use Rattle.std.specs.declared.result.Result.the-variants.{Ok, Err}
+use Rattle.std.specs.declared.result.Result.the-variants.{Ok}
 use Rattle.std.proofs.shelf.Decimals.{decimal-digit, decimal-some, digits-decimal, first-decimal, length-decimal-le, length-signed-le, value-decimal}
 use Rattle.std.proofs.shelf.Elements.{all-append, all-from-getD, all-weaker}
 use Rattle.std.proofs.shelf.Lists.{length-take-le}
@@ -26,7 +24,6 @@ use Rattle.std.proofs.shelf.Numerals.{digit-at}
 use Rattle.std.proofs.shelf.Ways.{tells}
 use Rattle.std.proofs.shelf.Tests.{and-from, cond-true, cond-false, eq-eqb, le-leb, ne-eqb, not-from-false}
 use Rattle.refusal.specs.declared.Cause.{Cause}
-use Rattle.refusal.specs.declared.Cause.the-variants.{Line, Value}
 use Rattle.ring.specs.declared.elements.Element.{Element}
 use Rattle.ring.specs.declared.elements.Coordinates.{Coordinates}
 use Rattle.ring.specs.declared.elements.Coordinates.the-variants.{One, Two}
@@ -39,10 +36,10 @@ use Rattle.text.specs.declared.state.State.the-variants.{Ring, Rank, Matrix, D
 use Rattle.text.specs.declared.state.Key.{Key}
 use Rattle.text.specs.declared.state.Key.the-variants.{Ring as RingKey, Rank as RankKey, Matrix as MatrixKey}
 use Rattle.text.specs.Keys.{key-answer, key-written}
-use Rattle.text.specs.Lines.{entered, finished, line-answer, placed, read-answer, reading}
+use Rattle.text.specs.Lines.{entered, line-answer, read-answer, reading}
 use Rattle.text.specs.Parts.{front, back}
-use Rattle.text.specs.Requests.{coordinates-of, elements, entries-answer, lettered, matrix-answer, padded, rank-answer, ranked, ring-answer, zero-element}
-use Rattle.text.specs.Values.{begun, coordinate-answer, digits-answer, element-answer, given, natural, negated, next, number-answer}
+use Rattle.text.specs.Requests.{coordinates-of, elements, matrix-answer, padded, rank-answer, ranked, ring-answer, zero-element}
+use Rattle.text.specs.Values.{begun, coordinate-answer, element-answer, natural, negated, next, number-answer}
 use Rattle.text.specs.Written.{Short, WellFormed, Writable, element-written, elements-written, line-written, ring-written, size, written}
 use Rattle.text.proofs.Numerals.{own}
 

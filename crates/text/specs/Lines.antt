@@ -9,7 +9,7 @@ use lib.ListN.{length}
 use Rattle.std.specs.declared.result.Result.{Result}
 use Rattle.std.specs.declared.result.Result.the-variants.{Ok, Err}
 use Rattle.refusal.specs.declared.Cause.{Cause}
-use Rattle.refusal.specs.declared.Cause.the-variants.{Line, Value}
+use Rattle.refusal.specs.declared.Cause.the-variants.{Line}
 use Rattle.refusal.specs.declared.Refusal.{Refusal}
 use Rattle.refusal.specs.Numbers.{refused, refuse}
 use Rattle.text.specs.declared.request.Request.{Request}
@@ -73,6 +73,11 @@ seen (Err e) = Err e
 abbrev pub counted : {X E : Type 0} → Result X E → ℕ → ℕ
 counted (Ok x) n = n + 1
 counted (Err e) n = n
+
+-- a fault changes nothing
+abbrev pub Kept : {X E : Type 0} → Result X E → State → List ℕ → State → List ℕ → Type 0
+Kept (Ok x) state text state′ text′ = Unit {0}
+Kept (Err e) state text state′ text′ = (state′ ≡ state) × (text′ ≡ text)
 
 -- nothing stands after the last line
 abbrev pub finished : ℕ → State → List ℕ → Result Request Refusal

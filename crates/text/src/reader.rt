@@ -1,8 +1,7 @@
 //! The reader of a text, line by line.
-ghost use Prim.Native.Nat.{_+_, _≤_};
-ghost use Rattle.text.specs.Lines.{entered, finished, line-answer, line-of, outcome, placed, rank-of, seen, counted};
+ghost use Prim.Native.Nat.{_≤_};
+ghost use Rattle.text.specs.Lines.{Kept, counted, entered, finished, line-answer, line-of, outcome, placed, rank-of, seen};
 ghost use Rattle.text.specs.declared.state.State.the-variants.{Ring};
-ghost use Rattle.std.specs.declared.result.Result.the-variants.{Ok, Err};
 ghost use mathlib.Core.Path.{_≡_};
 use super::parts::cut;
 use super::request::Request;
@@ -77,6 +76,7 @@ impl<'a> Reader<'a> {
     pub fn step(&mut self) -> Result<(), Refusal>
         ensures answer { λ r. ⌜ outcome r (now (self .exit) .state) (now (now (self .exit) .rest)) ≡ placed (now (self .entry) .line) (line-answer (now (self .entry) .state) (now (now (self .entry) .rest))) ⌝ }
         ensures line { λ r. ⌜ now (self .exit) .line ≡ counted r (now (self .entry) .line) ⌝ }
+        ensures kept { λ r. ⌜ Kept r (now (self .entry) .state) (now (now (self .entry) .rest)) (now (self .exit) .state) (now (now (self .exit) .rest)) ⌝ }
     {
         match self.next() {
             Ok((state, rest)) => {

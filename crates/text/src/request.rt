@@ -37,6 +37,7 @@ pub struct Matrix {
     pub entries: [Element; 9],
 }
 
+/// A matrix over a ring.
 #[derive(Clone, Copy)]
 pub struct Request {
     pub ring: RingName,

@@ -57,15 +57,19 @@ pub fn coordinate(bytes: &[u8]) -> Result<i64, Cause>
 pub fn element(k: Coordinates, bytes: &[u8]) -> Result<Element, Cause>
     ensures { λ r. ⌜ r ≡ element-answer k (now (bytes .entry)) ⌝ }
 {
-    match (k, cut(bytes, b':')) {
-        (Coordinates::One, _) => Ok(Element {
+    match k {
+        Coordinates::One => Ok(Element {
             x: coordinate(bytes)?,
             y: 0,
         }),
-        (Coordinates::Two(_, _), (x, Some(y))) => Ok(Element {
-            x: coordinate(x)?,
-            y: coordinate(y)?,
-        }),
-        (Coordinates::Two(_, _), (_, None)) => Err(Cause::Value),
+        Coordinates::Two(_, _) => {
+            let (x, Some(y)) = cut(bytes, b':') else {
+                return Err(Cause::Value);
+            };
+            Ok(Element {
+                x: coordinate(x)?,
+                y: coordinate(y)?,
+            })
+        }
     }
 }

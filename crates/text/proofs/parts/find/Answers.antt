@@ -1,6 +1,5 @@
 use Rattle.text.proofs.Cutting.{place-first, place-nowhere}
 use mathlib.Core.Path.{sym}
-use borrow.Author.Needs.{needs}
 use native.Mathlib.Omega.{arith}
 use Rattle.text.proofs.parts.find.Needs as need
 

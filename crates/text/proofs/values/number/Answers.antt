@@ -1,7 +1,4 @@
-use mathlib.Core.Path.{subst, sym}
-use Prim.Native.Nat.{_<_, _^_}
 use borrow.Author.Needs.{needs}
-use Rattle.std.specs.Vec.{made}
 use Rattle.text.proofs.Numerals.{digits-bound}
 use Rattle.text.proofs.values.number.Needs as need
 
