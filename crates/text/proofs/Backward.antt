@@ -5,19 +5,20 @@ use mathlib.Core.List.{List, [], _∷_, _++_}
 use Prim.Native.Nat.{ℕ, zero, suc, _-_, _*_, _^_, _<_, _≤_}
 use native.Mathlib.Nat.{mul-le-mul}
 use native.Mathlib.Omega.{arith}
+use lib.Chars.{codes}
 use lib.Dec.{eqb, leb, lit<}
 use lib.IntN.{ℤ, pos, negsuc}
 use lib.ListN.{length, getD, take, drop, replicate, length-append, length-replicate}
 use Rattle.std.specs.Written.{decimal, signed}
 use Rattle.std.specs.shelf.Lists.{All}
-use Rattle.std.specs.shelf.Text.{allDigits, sameBytes}
+use Rattle.std.specs.shelf.Text.{allDigits}
 use Rattle.std.specs.Reads.{value}
 use Rattle.std.specs.declared.option.Option.{Option}
 use Rattle.std.specs.declared.option.Option.the-variants.{Some, None}
 use Rattle.std.specs.declared.result.Result.{Result}
 use Rattle.std.specs.declared.result.Result.the-variants.{Ok, Err}
 use Rattle.std.proofs.shelf.Decimals.{decimal-value}
-use Rattle.std.proofs.shelf.Equals.{sameBytes-decides}
+use Rattle.std.proofs.shelf.Equals.{ReadsAt, text-from-reads}
 use Rattle.std.proofs.shelf.Lists.{drop-at, take-at}
 use Rattle.std.proofs.shelf.Numerals.{value-short}
 use Rattle.std.proofs.shelf.Tests.{and-parts, eqb-true, leb-true, both-ways, not-true, eq-eqb}
@@ -33,10 +34,8 @@ use Rattle.text.specs.declared.request.Matrix.{Matrix as Square}
 use Rattle.text.specs.declared.request.Request.{Request}
 use Rattle.text.specs.declared.state.State.{State}
 use Rattle.text.specs.declared.state.State.the-variants.{Ring, Rank, Matrix, Done}
-use Rattle.text.specs.declared.state.Key.{Key}
-use Rattle.text.specs.declared.state.Key.the-variants.{Ring as RingKey, Rank as RankKey, Matrix as MatrixKey}
 use Rattle.text.specs.Parts.{front, back}
-use Rattle.text.specs.Keys.{key-answer, key-written}
+use Rattle.text.specs.Keys.{reads, spells}
 use Rattle.text.specs.Lines.{entered, finished, line-answer, placed, read-answer, reading}
 use Rattle.text.specs.Requests.{coordinates-of, elements, entries-answer, lettered, matrix-answer, padded, rank-answer, ranked, ring-answer, zero-element}
 use Rattle.text.specs.Values.{begun, coordinate-answer, digits-answer, element-answer, natural, negated, next, number-answer}
@@ -161,17 +160,12 @@ elements-back k (suc n) (Some bs) es h =
     some-same : (s t : List ℕ) → Some s ≡ Some t → s ≡ t
     some-same s t w = cc
 
-pub key-back : (bs : List ℕ) (key : Key) → key-answer bs ≡ Ok key → bs ≡ key-written key
-key-back bs key h = go _ refl _ refl _ refl h
-  where
-    is : (k : Key) → sameBytes bs (key-written k) ≡ true → _≡_ {A = Result Key Cause} (Ok k) (Ok key) → bs ≡ key-written key
-    is k e q = sameBytes-decides bs (key-written k) .0 e ∙ ap key-written (same-ok k key q)
+reads-at : (bs : List ℕ) (i : ℕ) (name : List ℕ) → reads bs i name ≡ true → ReadsAt bs i name
+reads-at bs i [] h = tt
+reads-at bs i (c ∷ name) h = let p = and-parts (eqb (getD bs i 0) c) (reads bs (suc i) name) h in (eqb-true _ c (p .0), reads-at bs (suc i) name (p .1))
 
-    go : (r : Bool) → sameBytes bs (key-written RingKey) ≡ r → (s : Bool) → sameBytes bs (key-written RankKey) ≡ s → (t : Bool) → sameBytes bs (key-written MatrixKey) ≡ t → cond r (Ok RingKey) (cond s (Ok RankKey) (cond t (Ok MatrixKey) (Err Line))) ≡ Ok key → bs ≡ key-written key
-    go true a s b t c q = is RingKey a q
-    go false a true b t c q = is RankKey b q
-    go false a false b true c q = is MatrixKey c q
-    go false a false b false c q = absurd (no-fault Line key q)
+pub key-back : (bs name : List ℕ) → spells bs name ≡ true → bs ≡ name
+key-back bs name h = let p = and-parts (eqb (length bs) (length name)) (reads bs 0 name) h in text-from-reads bs name (eqb-true _ _ (p .0)) (reads-at bs 0 name (p .1))
 
 pub ring-back : (bs : List ℕ) (r : RingName) → ring-answer bs ≡ Ok r → bs ≡ ring-written r
 ring-back bs r h =
@@ -227,10 +221,10 @@ matrix-back k n bs m l h =
         }
 
 -- a line as it stood
-pub line-back : (s : State) (text : List ℕ) (t : State) (rest : List ℕ) (k : Taken s text t rest) → text ≡ line-written (k .key) (k .value) rest
-line-back s text t rest k =
+pub line-back : (s : State) (text : List ℕ) (t : State) (rest : List ℕ) (k : Taken s text t rest) (key : List ℕ) → spells (front 61 (front 10 text)) key ≡ true → text ≡ line-written key (k .value) rest
+line-back s text t rest k key e =
     joined-at 10 text rest (k .ends)
-    ∙ ap (λ (u : List ℕ). u ++ (10 ∷ rest)) (joined-at 61 (front 10 text) (k .value) (k .parts) ∙ ap (λ (u : List ℕ). u ++ (61 ∷ k .value)) (key-back (front 61 (front 10 text)) (k .key) (k .named)))
+    ∙ ap (λ (u : List ℕ). u ++ (10 ∷ rest)) (joined-at 61 (front 10 text) (k .value) (k .parts) ∙ ap (λ (u : List ℕ). u ++ (61 ∷ k .value)) (key-back (front 61 (front 10 text)) key e))
 
 placed-ok : {X : Type 0} (n : ℕ) (r : Result X Cause) (x : X) → placed n r ≡ Ok x → r ≡ Ok x
 placed-ok n (Ok y) x h = ap Ok (same-ok y x h)
@@ -240,12 +234,12 @@ placed-ok n (Err c) x h = absurd (no-fault (refused c n) x h)
 pub record RingLine (text : List ℕ) (t : State) (rest : List ℕ) : Type 0 where
   pub ring : RingName
   pub is : t ≡ Rank ring
-  pub bytes : text ≡ line-written RingKey (ring-written ring) rest
+  pub bytes : text ≡ line-written (codes "ring") (ring-written ring) rest
 
 pub record RankLine (ring : RingName) (text : List ℕ) (t : State) (rest : List ℕ) : Type 0 where
   pub rank : ℕ
   pub is : t ≡ Matrix ring rank
-  pub bytes : text ≡ line-written RankKey (decimal rank) rest
+  pub bytes : text ≡ line-written (codes "rank") (decimal rank) rest
   pub low : 1 ≤ rank
   pub high : rank ≤ 3
 
@@ -253,39 +247,46 @@ pub record MatrixLine (ring : RingName) (rank : ℕ) (text : List ℕ) (t : Stat
   pub matrix : Square
   pub is : t ≡ Done (record { ring = ring; matrix = matrix })
   pub value : List ℕ
-  pub bytes : text ≡ line-written MatrixKey value rest
+  pub bytes : text ≡ line-written (codes "matrix") value rest
   pub laid : Laid (coordinates-of ring) rank value matrix
 
 ring-line : (text : List ℕ) (t : State) (rest : List ℕ) → line-answer Ring text ≡ Ok (t, rest) → RingLine text t rest
-ring-line text t rest h = let k = line-ok Ring text t rest h in go (k .key) (k .value) (k .says) (line-back Ring text t rest k)
-  where
-    go : (key : Key) (v : List ℕ) → entered Ring key v ≡ Ok t → text ≡ line-written key v rest → RingLine text t rest
-    go RingKey v e w =
-        let p = next-ok (ring-answer v) _ t e in
-        record { ring = p .value; is = sym (same-ok _ t (p .then)); bytes = w ∙ ap (λ (u : List ℕ). line-written RingKey u rest) (ring-back v (p .value) (p .first)) }
-    go RankKey v e w = absurd (no-fault Line t e)
-    go MatrixKey v e w = absurd (no-fault Line t e)
+ring-line text t rest h =
+    let k = line-ok Ring text t rest h in
+    let a = cond-ok (spells (front 61 (front 10 text)) (codes "ring")) _ Line t (k .says) in
+    let p = next-ok (ring-answer (k .value)) _ t (a .then) in
+    record {
+      ring = p .value;
+      is = sym (same-ok _ t (p .then));
+      bytes = line-back Ring text t rest k (codes "ring") (a .test) ∙ ap (λ (u : List ℕ). line-written (codes "ring") u rest) (ring-back (k .value) (p .value) (p .first));
+    }
 
 rank-line : (ring : RingName) (text : List ℕ) (t : State) (rest : List ℕ) → line-answer (Rank ring) text ≡ Ok (t, rest) → RankLine ring text t rest
-rank-line ring text t rest h = let k = line-ok (Rank ring) text t rest h in go (k .key) (k .value) (k .says) (line-back (Rank ring) text t rest k)
-  where
-    go : (key : Key) (v : List ℕ) → entered (Rank ring) key v ≡ Ok t → text ≡ line-written key v rest → RankLine ring text t rest
-    go RingKey v e w = absurd (no-fault Line t e)
-    go RankKey v e w =
-        let p = next-ok (rank-answer v) _ t e in
-        let r = rank-back v (p .value) (p .first) in
-        record { rank = p .value; is = sym (same-ok _ t (p .then)); bytes = w ∙ ap (λ (u : List ℕ). line-written RankKey u rest) (r .0); low = r .1; high = r .2 }
-    go MatrixKey v e w = absurd (no-fault Line t e)
+rank-line ring text t rest h =
+    let k = line-ok (Rank ring) text t rest h in
+    let a = cond-ok (spells (front 61 (front 10 text)) (codes "rank")) _ Line t (k .says) in
+    let p = next-ok (rank-answer (k .value)) _ t (a .then) in
+    let r = rank-back (k .value) (p .value) (p .first) in
+    record {
+      rank = p .value;
+      is = sym (same-ok _ t (p .then));
+      bytes = line-back (Rank ring) text t rest k (codes "rank") (a .test) ∙ ap (λ (u : List ℕ). line-written (codes "rank") u rest) (r .0);
+      low = r .1;
+      high = r .2;
+    }
 
 matrix-line : (ring : RingName) (rank : ℕ) (text : List ℕ) (t : State) (rest : List ℕ) → rank * rank ≤ 9 → line-answer (Matrix ring rank) text ≡ Ok (t, rest) → MatrixLine ring rank text t rest
-matrix-line ring rank text t rest l h = let k = line-ok (Matrix ring rank) text t rest h in go (k .key) (k .value) (k .says) (line-back (Matrix ring rank) text t rest k)
-  where
-    go : (key : Key) (v : List ℕ) → entered (Matrix ring rank) key v ≡ Ok t → text ≡ line-written key v rest → MatrixLine ring rank text t rest
-    go RingKey v e w = absurd (no-fault Line t e)
-    go RankKey v e w = absurd (no-fault Line t e)
-    go MatrixKey v e w =
-        let p = next-ok (matrix-answer (coordinates-of ring) rank v) _ t e in
-        record { matrix = p .value; is = sym (same-ok _ t (p .then)); value = v; bytes = w; laid = matrix-back (coordinates-of ring) rank v (p .value) l (p .first) }
+matrix-line ring rank text t rest l h =
+    let k = line-ok (Matrix ring rank) text t rest h in
+    let a = cond-ok (spells (front 61 (front 10 text)) (codes "matrix")) _ Line t (k .says) in
+    let p = next-ok (matrix-answer (coordinates-of ring) rank (k .value)) _ t (a .then) in
+    record {
+      matrix = p .value;
+      is = sym (same-ok _ t (p .then));
+      value = k .value;
+      bytes = line-back (Matrix ring rank) text t rest k (codes "matrix") (a .test);
+      laid = matrix-back (coordinates-of ring) rank (k .value) (p .value) l (p .first);
+    }
 
 finished-back : (n : ℕ) (q p : Request) (text : List ℕ) → finished n (Done q) text ≡ Ok p → (text ≡ []) × (q ≡ p)
 finished-back n q p [] h = (refl, same-ok q p h)
@@ -296,7 +297,7 @@ record FromMatrix (ring : RingName) (rank : ℕ) (text : List ℕ) (q : Request)
   matrix : Square
   value : List ℕ
   request : record { ring = ring; matrix = matrix } ≡ q
-  bytes : text ≡ line-written MatrixKey value []
+  bytes : text ≡ line-written (codes "matrix") value []
   laid : Laid (coordinates-of ring) rank value matrix
 
 from-matrix : (ring : RingName) (rank : ℕ) (text : List ℕ) (q : Request) → rank * rank ≤ 9 → reading 1 3 (Matrix ring rank) text ≡ Ok q → FromMatrix ring rank text q
@@ -304,14 +305,14 @@ from-matrix ring rank text q l h =
     let b = next-ok (placed 3 (line-answer (Matrix ring rank) text)) _ q h in
     let k = matrix-line ring rank text (b .value .0) (b .value .1) l (placed-ok 3 _ (b .value) (b .first)) in
     let f = finished-back 4 (record { ring = ring; matrix = k .matrix }) q (b .value .1) (subst (λ (s : State). finished 4 s (b .value .1) ≡ Ok q) (k .is) (b .then)) in
-    record { matrix = k .matrix; value = k .value; request = f .1; bytes = k .bytes ∙ ap (line-written MatrixKey (k .value)) (f .0); laid = k .laid }
+    record { matrix = k .matrix; value = k .value; request = f .1; bytes = k .bytes ∙ ap (line-written (codes "matrix") (k .value)) (f .0); laid = k .laid }
 
 record FromRank (ring : RingName) (text : List ℕ) (q : Request) : Type 0 where
   rank : ℕ
   low : 1 ≤ rank
   high : rank ≤ 3
   rest : List ℕ
-  bytes : text ≡ line-written RankKey (decimal rank) rest
+  bytes : text ≡ line-written (codes "rank") (decimal rank) rest
   then : FromMatrix ring rank rest q
 
 from-rank : (ring : RingName) (text : List ℕ) (q : Request) → reading 2 2 (Rank ring) text ≡ Ok q → FromRank ring text q
@@ -329,11 +330,11 @@ from-rank ring text q h =
 
 -- from the lines to the request
 module _ (ring : RingName) (m : Square) (value text : List ℕ) where
-  request-back : (rank : ℕ) → 1 ≤ rank → rank ≤ 3 → Laid (coordinates-of ring) rank value m → text ≡ line-written RingKey (ring-written ring) (line-written RankKey (decimal rank) (line-written MatrixKey value [])) → (text ≡ written (record { ring = ring; matrix = m })) × WellFormed (record { ring = ring; matrix = m })
+  request-back : (rank : ℕ) → 1 ≤ rank → rank ≤ 3 → Laid (coordinates-of ring) rank value m → text ≡ line-written (codes "ring") (ring-written ring) (line-written (codes "rank") (decimal rank) (line-written (codes "matrix") value [])) → (text ≡ written (record { ring = ring; matrix = m })) × WellFormed (record { ring = ring; matrix = m })
   request-back rank low high laid w =
       let e = sym (laid .rank) in
       let laid′ : Laid (coordinates-of ring) (m .rank) value m = subst (λ (n : ℕ). Laid (coordinates-of ring) n value m) e laid in
-      (w ∙ ap₂ (λ (n : ℕ) (v : List ℕ). line-written RingKey (ring-written ring) (line-written RankKey (decimal n) (line-written MatrixKey v []))) e (laid′ .bytes), record { rank-low = subst (λ (n : ℕ). 1 ≤ n) e low; rank-high = subst (λ (n : ℕ). n ≤ 3) e high; nine = laid .nine; entries = laid′ .each; zeros = laid′ .zeros })
+      (w ∙ ap₂ (λ (n : ℕ) (v : List ℕ). line-written (codes "ring") (ring-written ring) (line-written (codes "rank") (decimal n) (line-written (codes "matrix") v []))) e (laid′ .bytes), record { rank-low = subst (λ (n : ℕ). 1 ≤ n) e low; rank-high = subst (λ (n : ℕ). n ≤ 3) e high; nine = laid .nine; entries = laid′ .each; zeros = laid′ .zeros })
 
 pub read-back : (text : List ℕ) (q : Request) → read-answer text ≡ Ok q → (text ≡ written q) × WellFormed q
 read-back text q h =
@@ -342,5 +343,5 @@ read-back text q h =
     let k = ring-line text (b .value .0) (b .value .1) (placed-ok 1 _ (b .value) (b .first)) in
     let r = from-rank (k .ring) (b .value .1) q (subst (λ (s : State). reading 2 2 s (b .value .1) ≡ Ok q) (k .is) (b .then)) in
     let m = r .then in
-    let w = k .bytes ∙ ap (line-written RingKey (ring-written (k .ring))) (r .bytes ∙ ap (line-written RankKey (decimal (r .rank))) (m .bytes)) in
+    let w = k .bytes ∙ ap (line-written (codes "ring") (ring-written (k .ring))) (r .bytes ∙ ap (line-written (codes "rank") (decimal (r .rank))) (m .bytes)) in
     subst (λ (p : Request). (text ≡ written p) × WellFormed p) (m .request) (request-back (k .ring) (m .matrix) (m .value) text (r .rank) (r .low) (r .high) (m .laid) w)

@@ -4,6 +4,7 @@ use mathlib.Core.Bool.{Bool, true, false, cond}
 use mathlib.Core.List.{List}
 use Prim.Native.Nat.{ℕ, _+_, _≤_}
 use native.Mathlib.Omega.{arith}
+use lib.Chars.{codes}
 use lib.Dec.{lit≤}
 use Rattle.std.specs.declared.option.Option.{Option}
 use Rattle.std.specs.declared.option.Option.the-variants.{Some, None}
@@ -13,9 +14,7 @@ use Rattle.std.proofs.shelf.Ways.{tells}
 use Rattle.refusal.specs.declared.Cause.the-variants.{Line}
 use Rattle.text.specs.declared.state.State.{State}
 use Rattle.text.specs.declared.state.State.the-variants.{Ring, Rank, Matrix, Done}
-use Rattle.text.specs.declared.state.Key.{Key}
-use Rattle.text.specs.declared.state.Key.the-variants.{Ring as RingKey, Rank as RankKey, Matrix as MatrixKey}
-use Rattle.text.specs.Keys.{key-answer}
+use Rattle.text.specs.Keys.{spells}
 use Rattle.text.specs.Lines.{entered, line-answer, line-of, rank-of}
 use Rattle.text.specs.Parts.{front, back}
 use Rattle.text.specs.Requests.{coordinates-of, matrix-answer, rank-answer, ranked, ring-answer}
@@ -66,35 +65,35 @@ pub record Follows (s t : State) : Type 0 where
   pub line : line-of s + 1 ≡ line-of t
   pub rank : rank-of t ≤ 3
 
-pub entered-follows : (s : State) (key : Key) (bs : List ℕ) (t : State) → entered s key bs ≡ Ok t → Follows s t
-entered-follows Ring RingKey bs t h = let p = next-ok (ring-answer bs) _ t h in subst (Follows Ring) (same-ok _ t (p .then)) (record { line = refl; rank = lit≤ tt })
-entered-follows Ring RankKey bs t h = absurd (no-fault Line t h)
-entered-follows Ring MatrixKey bs t h = absurd (no-fault Line t h)
-entered-follows (Rank r) RingKey bs t h = absurd (no-fault Line t h)
-entered-follows (Rank r) RankKey bs t h = let p = next-ok (rank-answer bs) _ t h in subst (Follows (Rank r)) (same-ok _ t (p .then)) (record { line = refl; rank = rank-small bs (p .value) (p .first) })
-entered-follows (Rank r) MatrixKey bs t h = absurd (no-fault Line t h)
-entered-follows (Matrix r n) RingKey bs t h = absurd (no-fault Line t h)
-entered-follows (Matrix r n) RankKey bs t h = absurd (no-fault Line t h)
-entered-follows (Matrix r n) MatrixKey bs t h = let p = next-ok (matrix-answer (coordinates-of r) n bs) _ t h in subst (Follows (Matrix r n)) (same-ok _ t (p .then)) (record { line = refl; rank = lit≤ tt })
+pub entered-follows : (s : State) (key bs : List ℕ) (t : State) → entered s key bs ≡ Ok t → Follows s t
+entered-follows Ring key bs t h =
+    let a = cond-ok (spells key (codes "ring")) _ Line t h in
+    let p = next-ok (ring-answer bs) _ t (a .then) in
+    subst (Follows Ring) (same-ok _ t (p .then)) (record { line = refl; rank = lit≤ tt })
+entered-follows (Rank r) key bs t h =
+    let a = cond-ok (spells key (codes "rank")) _ Line t h in
+    let p = next-ok (rank-answer bs) _ t (a .then) in
+    subst (Follows (Rank r)) (same-ok _ t (p .then)) (record { line = refl; rank = rank-small bs (p .value) (p .first) })
+entered-follows (Matrix r n) key bs t h =
+    let a = cond-ok (spells key (codes "matrix")) _ Line t h in
+    let p = next-ok (matrix-answer (coordinates-of r) n bs) _ t (a .then) in
+    subst (Follows (Matrix r n)) (same-ok _ t (p .then)) (record { line = refl; rank = lit≤ tt })
 entered-follows (Done q) key bs t h = absurd (no-fault Line t h)
 
--- the steps of a line that was read
+-- the parts of a line that was read
 pub record Taken (s : State) (text : List ℕ) (t : State) (rest : List ℕ) : Type 0 where
   pub value : List ℕ
-  pub key : Key
   pub ends : back 10 text ≡ Some rest
   pub parts : back 61 (front 10 text) ≡ Some value
-  pub named : key-answer (front 61 (front 10 text)) ≡ Ok key
-  pub says : entered s key value ≡ Ok t
+  pub says : entered s (front 61 (front 10 text)) value ≡ Ok t
 
 pub line-ok : (s : State) (text : List ℕ) (t : State) (rest : List ℕ) → line-answer s text ≡ Ok (t, rest) → Taken s text t rest
 line-ok s text t rest h =
     let a = given-ok (back 10 text) Line _ (t, rest) h in
     let b = given-ok (back 61 (front 10 text)) Line _ (t, rest) (a .then) in
-    let c = next-ok (key-answer (front 61 (front 10 text))) _ (t, rest) (b .then) in
-    let d = next-ok (entered s (c .value) (b .value)) _ (t, rest) (c .then) in
+    let d = next-ok (entered s (front 61 (front 10 text)) (b .value)) _ (t, rest) (b .then) in
     let e : _≡_ {A = State × List ℕ} (d .value, a .value) (t, rest) = same-ok (d .value, a .value) (t, rest) (d .then) in
-    record { value = b .value; key = c .value; ends = a .first ∙ ap Some (ap (λ (q : State × List ℕ). q .1) e); parts = b .first; named = c .first; says = d .first ∙ ap Ok (ap (λ (q : State × List ℕ). q .0) e) }
+    record { value = b .value; ends = a .first ∙ ap Some (ap (λ (q : State × List ℕ). q .1) e); parts = b .first; says = d .first ∙ ap Ok (ap (λ (q : State × List ℕ). q .0) e) }
 
 pub line-follows : (s : State) (text : List ℕ) (t : State) (rest : List ℕ) → Ok (t, rest) ≡ line-answer s text → Follows s t
-line-follows s text t rest h = let k = line-ok s text t rest (sym h) in entered-follows s (k .key) (k .value) t (k .says)
+line-follows s text t rest h = let k = line-ok s text t rest (sym h) in entered-follows s (front 61 (front 10 text)) (k .value) t (k .says)

@@ -6,6 +6,8 @@ use mathlib.Core.List.{List, [], _∷_, _++_}
 use Prim.Native.Nat.{ℕ, zero, suc, _+_, _-_, _*_, _^_, _<_, _≤_}
 use native.Mathlib.Nat.{mul-le-mul}
 use native.Mathlib.Omega.{arith}
+use borrow.Author.Needs.{needs}
+use lib.Chars.{codes}
 use lib.Dec.{eqb, lit<, lit≤}
 use lib.IntN.{ℤ, pos, negsuc}
 use lib.Signed.{mag}
@@ -33,9 +35,6 @@ use Rattle.text.specs.declared.request.Matrix.{Matrix as Square}
 use Rattle.text.specs.declared.request.Request.{Request}
 use Rattle.text.specs.declared.state.State.{State}
 use Rattle.text.specs.declared.state.State.the-variants.{Ring, Rank, Matrix, Done}
-use Rattle.text.specs.declared.state.Key.{Key}
-use Rattle.text.specs.declared.state.Key.the-variants.{Ring as RingKey, Rank as RankKey, Matrix as MatrixKey}
-use Rattle.text.specs.Keys.{key-answer, key-written}
 use Rattle.text.specs.Lines.{entered, line-answer, read-answer, reading}
 use Rattle.text.specs.Parts.{front, back}
 use Rattle.text.specs.Requests.{coordinates-of, elements, matrix-answer, padded, rank-answer, ranked, ring-answer, zero-element}
@@ -153,22 +152,12 @@ elements-length k (e ∷ f ∷ es) w =
     let y = elements-length k (f ∷ es) (w .1) in
     rw length-append (omega arith)
 
--- the lines
-key-lacks : (key : Key) → Lacks 10 (key-written key) × Lacks 61 (key-written key)
-key-lacks RingKey = ((refl, (refl, (refl, (refl, tt)))), (refl, (refl, (refl, (refl, tt)))))
-key-lacks RankKey = ((refl, (refl, (refl, (refl, tt)))), (refl, (refl, (refl, (refl, tt)))))
-key-lacks MatrixKey = ((refl, (refl, (refl, (refl, (refl, (refl, tt)))))), (refl, (refl, (refl, (refl, (refl, (refl, tt)))))))
-
-key-forth : (key : Key) → key-answer (key-written key) ≡ Ok key
-key-forth RingKey = refl
-key-forth RankKey = refl
-key-forth MatrixKey = refl
-
-pub line-forth : (s : State) (key : Key) (value rest : List ℕ) (t : State) → Lacks 10 value → entered s key value ≡ Ok t → line-answer s (line-written key value rest) ≡ Ok (t, rest)
-line-forth s key value rest t l e =
-    let c = cut-between 10 (key-written key ++ (61 ∷ value)) rest (all-append _ (key-written key) (61 ∷ value) (key-lacks key .0) (refl, l)) in
-    let d = cut-between 61 (key-written key) value (key-lacks key .1) in
-    rw (c .0, c .1, d .0, d .1, key-forth key, e)
+-- a line whose key has small letters
+pub line-forth : (s : State) (key value rest : List ℕ) (t : State) → All (In 97 122) key → Lacks 10 value → entered s key value ≡ Ok t → line-answer s (line-written key value rest) ≡ Ok (t, rest)
+line-forth s key value rest t letters l e =
+    let c = cut-between 10 (key ++ (61 ∷ value)) rest (all-append _ key (61 ∷ value) (lacks 10 97 122 key (inl (lit< tt)) letters) (refl, l)) in
+    let d = cut-between 61 key value (lacks 61 97 122 key (inl (lit< tt)) letters) in
+    rw (c .0, c .1, d .0, d .1, e)
 
 ring-forth : (r : RingName) → (ring-answer (ring-written r) ≡ Ok r) × Lacks 10 (ring-written r) × (length (ring-written r) ≡ 1)
 ring-forth Integers = (refl, (refl, tt), refl)
@@ -192,30 +181,28 @@ matrix-forth k m low high nine each zeros =
     rw (r′, p)
 
 -- line by line
-reading-more : (lines n : ℕ) (s : State) (key : Key) (value rest : List ℕ) (t : State) (q : Request) → Lacks 10 value → entered s key value ≡ Ok t → reading lines (suc n) t rest ≡ Ok q → reading (suc lines) n s (line-written key value rest) ≡ Ok q
-reading-more lines n s key value rest t q l e r = rw (line-forth s key value rest t l e) r
+reading-more : (lines n : ℕ) (s : State) (key value rest : List ℕ) (t : State) (q : Request) → All (In 97 122) key → Lacks 10 value → entered s key value ≡ Ok t → reading lines (suc n) t rest ≡ Ok q → reading (suc lines) n s (line-written key value rest) ≡ Ok q
+reading-more lines n s key value rest t q letters l e r = rw (line-forth s key value rest t letters l e) r
 
-line-length : (key : Key) (value rest : List ℕ) → length (line-written key value rest) ≤ 8 + length value + length rest
-line-length RingKey value rest = rw length-append (omega arith)
-line-length RankKey value rest = rw length-append (omega arith)
-line-length MatrixKey value rest = rw length-append (omega arith)
+line-length : (key value rest : List ℕ) → length key ≤ 6 → length (line-written key value rest) ≤ 8 + length value + length rest
+line-length key value rest l = simp length-append (omega arith)
 
 pub read-forth : (q : Request) → WellFormed q → read-answer (written q) ≡ Ok q
 read-forth q w =
     let many : size q ≤ 9 = mul-le-mul (w .rank-high) (w .rank-high) in
     let rows = elements-written (coordinates-of (q .ring)) (take (size q) (q .matrix .entries)) in
-    let last = line-written MatrixKey rows [] in
-    let middle = line-written RankKey (decimal (q .matrix .rank)) last in
+    let last = line-written (codes "matrix") rows [] in
+    let middle = line-written (codes "rank") (decimal (q .matrix .rank)) last in
     let m = matrix-forth (coordinates-of (q .ring)) (q .matrix) (w .rank-low) (w .rank-high) (w .nine) (w .entries) (w .zeros) in
     let r = ring-forth (q .ring) in
     let no-end = lacks 10 44 58 rows (inl (lit< tt)) (elements-bytes (coordinates-of (q .ring)) (take (size q) (q .matrix .entries)) (w .entries)) in
     let digits = lacks 10 48 57 (decimal (q .matrix .rank)) (inl (lit< tt)) (decimal-bytes (q .matrix .rank) (omega (arith, w .rank-high))) in
-    let c = reading-more 0 3 (Matrix (q .ring) (q .matrix .rank)) MatrixKey rows [] (Done q) q no-end (rw m) refl in
-    let b = reading-more 1 2 (Rank (q .ring)) RankKey (decimal (q .matrix .rank)) last (Matrix (q .ring) (q .matrix .rank)) q digits (rw (rank-forth (q .matrix .rank) (w .rank-low) (w .rank-high))) c in
-    let a = reading-more 2 1 Ring RingKey (ring-written (q .ring)) middle (Rank (q .ring)) q (r .1) (rw (r .0)) b in
-    let n₁ = line-length RingKey (ring-written (q .ring)) middle in
-    let n₂ = line-length RankKey (decimal (q .matrix .rank)) last in
-    let n₃ = line-length MatrixKey rows [] in
+    let c = reading-more 0 3 (Matrix (q .ring) (q .matrix .rank)) (codes "matrix") rows [] (Done q) q (search needs) no-end (rw m) refl in
+    let b = reading-more 1 2 (Rank (q .ring)) (codes "rank") (decimal (q .matrix .rank)) last (Matrix (q .ring) (q .matrix .rank)) q (search needs) digits (rw (rank-forth (q .matrix .rank) (w .rank-low) (w .rank-high))) c in
+    let a = reading-more 2 1 Ring (codes "ring") (ring-written (q .ring)) middle (Rank (q .ring)) q (search needs) (r .1) (rw (r .0)) b in
+    let n₁ = line-length (codes "ring") (ring-written (q .ring)) middle (lit≤ tt) in
+    let n₂ = line-length (codes "rank") (decimal (q .matrix .rank)) last (lit≤ tt) in
+    let n₃ = line-length (codes "matrix") rows [] (lit≤ tt) in
     let n₄ = elements-length (coordinates-of (q .ring)) (take (size q) (q .matrix .entries)) (w .entries) in
     let n₅ = length-take-le (size q) (q .matrix .entries) (omega (arith, w .nine)) in
     let n₆ = length-decimal-le 1 (q .matrix .rank) (lit< tt) (omega (arith, w .rank-high)) (omega (arith, w .rank-high)) in

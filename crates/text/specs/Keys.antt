@@ -1,21 +1,14 @@
--- The keys of the lines.
-use mathlib.Core.Bool.{cond}
-use mathlib.Core.List.{List}
-use Prim.Native.Nat.{ℕ}
-use lib.Chars.{codes}
-use Rattle.std.specs.shelf.Text.{sameBytes}
-use Rattle.std.specs.declared.result.Result.{Result}
-use Rattle.std.specs.declared.result.Result.the-variants.{Ok, Err}
-use Rattle.refusal.specs.declared.Cause.{Cause}
-use Rattle.refusal.specs.declared.Cause.the-variants.{Line}
-use Rattle.text.specs.declared.state.Key.{Key}
-use Rattle.text.specs.declared.state.Key.the-variants.{Ring, Rank, Matrix}
+-- The bytes of a key.
+use mathlib.Core.Bool.{Bool, true, _&&_}
+use mathlib.Core.List.{List, [], _∷_}
+use Prim.Native.Nat.{ℕ, suc}
+use lib.Dec.{eqb}
+use lib.ListN.{length, getD}
 
-abbrev pub key-written : Key → List ℕ
-key-written Ring = codes "ring"
-key-written Rank = codes "rank"
-key-written Matrix = codes "matrix"
+-- the bytes of the name stand in bs from place i on
+abbrev pub reads : List ℕ → ℕ → List ℕ → Bool
+reads bs i [] = true
+reads bs i (b ∷ name) = eqb (getD bs i 0) b && reads bs (suc i) name
 
-abbrev pub key-answer : List ℕ → Result Key Cause
-key-answer bs =
-    cond (sameBytes bs (key-written Ring)) (Ok Ring) (cond (sameBytes bs (key-written Rank)) (Ok Rank) (cond (sameBytes bs (key-written Matrix)) (Ok Matrix) (Err Line)))
+abbrev pub spells : List ℕ → List ℕ → Bool
+spells bs name = eqb (length bs) (length name) && reads bs 0 name

@@ -15,9 +15,8 @@ use Rattle.refusal.specs.Numbers.{refused, refuse}
 use Rattle.text.specs.declared.request.Request.{Request}
 use Rattle.text.specs.declared.state.State.{State}
 use Rattle.text.specs.declared.state.State.the-variants.{Ring, Rank, Matrix, Done}
-use Rattle.text.specs.declared.state.Key.{Key}
-use Rattle.text.specs.declared.state.Key.the-variants.{Ring as RingKey, Rank as RankKey, Matrix as MatrixKey}
-use Rattle.text.specs.Keys.{key-answer}
+use lib.Chars.{codes}
+use Rattle.text.specs.Keys.{spells}
 use Rattle.text.specs.Parts.{front, back}
 use Rattle.text.specs.Values.{next, given}
 use Rattle.text.specs.Requests.{coordinates-of, ring-answer, rank-answer, matrix-answer}
@@ -37,22 +36,17 @@ rank-of (Matrix ring rank) = rank
 rank-of (Done request) = 0
 
 -- what a line with this key and value says: the ring, then the rank, then the matrix
-abbrev pub entered : State → Key → List ℕ → Result State Cause
-entered Ring RingKey value = next (ring-answer value) (λ ring. Ok (Rank ring))
-entered Ring RankKey value = Err Line
-entered Ring MatrixKey value = Err Line
-entered (Rank ring) RingKey value = Err Line
-entered (Rank ring) RankKey value = next (rank-answer value) (λ rank. Ok (Matrix ring rank))
-entered (Rank ring) MatrixKey value = Err Line
-entered (Matrix ring rank) RingKey value = Err Line
-entered (Matrix ring rank) RankKey value = Err Line
-entered (Matrix ring rank) MatrixKey value = next (matrix-answer (coordinates-of ring) rank value) (λ matrix. Ok (Done (record { ring = ring; matrix = matrix })))
+abbrev pub entered : State → List ℕ → List ℕ → Result State Cause
+entered Ring key value = cond (spells key (codes "ring")) (next (ring-answer value) (λ ring. Ok (Rank ring))) (Err Line)
+entered (Rank ring) key value = cond (spells key (codes "rank")) (next (rank-answer value) (λ rank. Ok (Matrix ring rank))) (Err Line)
+entered (Matrix ring rank) key value =
+    cond (spells key (codes "matrix")) (next (matrix-answer (coordinates-of ring) rank value) (λ matrix. Ok (Done (record { ring = ring; matrix = matrix })))) (Err Line)
 entered (Done request) key value = Err Line
 
 -- a line ends with byte 10, and has its key before the first = and its value after it
 abbrev pub line-answer : State → List ℕ → Result (State × List ℕ) Cause
 line-answer state text =
-    given (back 10 text) Line (λ rest. given (back 61 (front 10 text)) Line (λ value. next (key-answer (front 61 (front 10 text))) (λ key. next (entered state key value) (λ after. Ok (after, rest)))))
+    given (back 10 text) Line (λ rest. given (back 61 (front 10 text)) Line (λ value. next (entered state (front 61 (front 10 text)) value) (λ after. Ok (after, rest))))
 
 -- a fault in line n
 abbrev pub placed : {X : Type 0} → ℕ → Result X Cause → Result X Refusal

@@ -15,9 +15,6 @@ use Rattle.ring.specs.Elements.{Member}
 use Rattle.text.specs.declared.request.RingName.{RingName}
 use Rattle.text.specs.declared.request.RingName.the-variants.{Integers, Gaussian, Eisenstein}
 use Rattle.text.specs.declared.request.Request.{Request}
-use Rattle.text.specs.declared.state.Key.{Key}
-use Rattle.text.specs.declared.state.Key.the-variants.{Ring as RingKey, Rank as RankKey, Matrix as MatrixKey}
-use Rattle.text.specs.Keys.{key-written}
 use Rattle.text.specs.Lines.{read-answer}
 use Rattle.text.specs.Requests.{coordinates-of, zero-element}
 
@@ -38,15 +35,15 @@ ring-written Gaussian = codes "G"
 ring-written Eisenstein = codes "E"
 
 -- a line, and what follows it
-abbrev pub line-written : Key → List ℕ → List ℕ → List ℕ
-line-written key value rest = (key-written key ++ (61 ∷ value)) ++ (10 ∷ rest)
+abbrev pub line-written : List ℕ → List ℕ → List ℕ → List ℕ
+line-written key value rest = (key ++ (61 ∷ value)) ++ (10 ∷ rest)
 
 abbrev pub size : Request → ℕ
 size q = q .matrix .rank * q .matrix .rank
 
 abbrev pub written : Request → List ℕ
 written q =
-    line-written RingKey (ring-written (q .ring)) (line-written RankKey (decimal (q .matrix .rank)) (line-written MatrixKey (elements-written (coordinates-of (q .ring)) (take (size q) (q .matrix .entries))) []))
+    line-written (codes "ring") (ring-written (q .ring)) (line-written (codes "rank") (decimal (q .matrix .rank)) (line-written (codes "matrix") (elements-written (coordinates-of (q .ring)) (take (size q) (q .matrix .entries))) []))
 
 -- at most 15 digits
 abbrev pub Short : ℤ → Type 0

@@ -21,7 +21,6 @@ pub use request::RingNameEq;
 pub use request::RingNamePartialEq;
 pub use request::rank;
 pub use request::ring_name;
-pub use state::Key;
 pub use state::State;
 pub use values::coordinate;
 pub use values::element;

@@ -8,7 +8,6 @@ use super::request::Request;
 use super::request::rank;
 use super::request::ring_name;
 use super::request::square;
-use super::state::Key;
 use super::state::State;
 use refusal::Cause;
 use refusal::Refusal;
@@ -38,18 +37,18 @@ impl<'a> Reader<'a> {
     }
 
     // What follows a line with this key and value.
-    fn enter(&self, key: Key, value: &[u8]) -> Result<State, Cause>
-        ensures { λ r. ⌜ r ≡ entered (now (self .entry) .state) key (now (value .entry)) ⌝ }
+    fn enter(&self, key: &[u8], value: &[u8]) -> Result<State, Cause>
+        ensures { λ r. ⌜ r ≡ entered (now (self .entry) .state) (now (key .entry)) (now (value .entry)) ⌝ }
     {
         match (self.state, key) {
-            (State::Ring, Key::Ring) => Ok(State::Rank {
+            (State::Ring, b"ring") => Ok(State::Rank {
                 ring: ring_name(value)?,
             }),
-            (State::Rank { ring }, Key::Rank) => Ok(State::Matrix {
+            (State::Rank { ring }, b"rank") => Ok(State::Matrix {
                 ring,
                 rank: rank(value)?,
             }),
-            (State::Matrix { ring, rank }, Key::Matrix) => {
+            (State::Matrix { ring, rank }, b"matrix") => {
                 let matrix = square(ring, rank, value)?;
                 let request = Request { ring, matrix };
                 Ok(State::Done { request })
@@ -68,7 +67,7 @@ impl<'a> Reader<'a> {
         let (key, Some(value)) = cut(line, b'=') else {
             return Err(Cause::Line);
         };
-        let state = self.enter(Key::of(key)?, value)?;
+        let state = self.enter(key, value)?;
         Ok((state, rest))
     }
 
