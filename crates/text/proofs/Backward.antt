@@ -36,7 +36,7 @@ use Rattle.text.specs.declared.state.State.{State}
 use Rattle.text.specs.declared.state.State.the-variants.{Ring, Rank, Matrix, Done}
 use Rattle.text.specs.Parts.{front, back}
 use Rattle.text.specs.Keys.{reads, spells}
-use Rattle.text.specs.Lines.{entered, finished, line-answer, placed, read-answer, reading}
+use Rattle.text.specs.Lines.{finished, line-answer, placed, read-answer, reading}
 use Rattle.text.specs.Requests.{coordinates-of, elements, entries-answer, lettered, matrix-answer, padded, rank-answer, ranked, ring-answer, zero-element}
 use Rattle.text.specs.Values.{begun, coordinate-answer, digits-answer, element-answer, natural, negated, next, number-answer}
 use Rattle.text.specs.Written.{Short, WellFormed, Writable, element-written, elements-written, line-written, ring-written, written}
