@@ -52,3 +52,52 @@ pub fn reading_inverts_writing() -> u8
 {
     0
 }
+
+#[cfg(test)]
+mod tests {
+    use super::*;
+    use std::test::*;
+
+    fn refuses(text: &[u8], cause: u8, place: u64) -> bool {
+        match read(text) {
+            Err(refusal) => refusal.cause.number() == cause && refusal.place == place,
+            Ok(_) => false,
+        }
+    }
+
+    #[test]
+    fn reads_elements_by_rows() -> Result<(), Fail> {
+        let Ok(request) = read(b"ring=G\nrank=2\nmatrix=1:0,-20:3,0:999999999999999,5:-7\n") else {
+            return Err(Fail::new("not read"));
+        };
+        check(request.ring == RingName::Gaussian)?;
+        check(request.matrix.rank == 2)?;
+        check(request.matrix.entries[1].x == -20 && request.matrix.entries[1].y == 3)?;
+        check(request.matrix.entries[2].y == 999999999999999)?;
+        check(request.matrix.entries[3].y == -7 && request.matrix.entries[4].x == 0)
+    }
+
+    #[test]
+    fn refuses_lines() -> Result<(), Fail> {
+        check(refuses(b"", 1, 1))?;
+        check(refuses(b"rank=1\n", 1, 1))?;
+        check(refuses(b"ring=Z", 1, 1))?;
+        check(refuses(b"ring=Z\nrank 1\n", 1, 2))?;
+        check(refuses(b"ring=Z\nrank=1\n", 1, 3))?;
+        check(refuses(b"ring=Z\nrank=1\nmatrix=5", 1, 3))?;
+        check(refuses(b"ring=Z\nrank=1\nmatrix=5\n\n", 1, 4))?;
+        check(refuses(&[b'\n'; 16385], 1, 0))
+    }
+
+    #[test]
+    fn refuses_values() -> Result<(), Fail> {
+        check(refuses(b"ring=Q\nrank=9\n", 2, 1))?;
+        check(refuses(b"ring=Z\nrank=4\nmatrix=5\n", 2, 2))?;
+        check(refuses(b"ring=Z\nrank=01\nmatrix=5\n", 2, 2))?;
+        check(refuses(b"ring=Z\nrank=1\nmatrix=-0\n\n", 2, 3))?;
+        check(refuses(b"ring=Z\nrank=1\nmatrix=1000000000000000\n", 2, 3))?;
+        check(refuses(b"ring=Z\nrank=1\nmatrix=1,2\n", 2, 3))?;
+        check(refuses(b"ring=E\nrank=1\nmatrix=7\n", 2, 3))?;
+        check(refuses(b"ring=Z\nrank=1\nmatrix=7:0\n", 2, 3))
+    }
+}
