@@ -22,8 +22,8 @@ use Rattle.algebra.specs.Euclidean.{Canonical}
 use Rattle.ring.specs.declared.elements.Element.{Element}
 use Rattle.ring.specs.declared.elements.Coordinates.{Coordinates}
 use Rattle.ring.specs.declared.elements.Coordinates.the-variants.{One, Two}
-use Rattle.ring.specs.Elements.{Member, Within, admits, admitted, element, ops, reach, same, value}
-use Rattle.ring.specs.Answers.{CanonicalAnswer, Meets, canonical-number-answer, canonical-place, count-answer, is-zero, norm-answer, norm-check, norm-of, one-check}
+use Rattle.ring.specs.Elements.{Member, Within, admits, admitted, element, norm-check, ops, reach, same, value}
+use Rattle.ring.specs.Answers.{CanonicalAnswer, Meets, canonical-number-answer, canonical-place, count-answer, is-zero, norm-answer, norm-of, one-check}
 use Rattle.ring.specs.Meaning.{Laws, Meaning}
 use Rattle.ring.proofs.Places.{nth-place, place-listed, same-refl, same-true, same-zero, zero-same}
 use Rattle.location.specs.Located.{LocatedAt, Located, entry-check, index-check, location-check, singular-check}
@@ -137,7 +137,7 @@ module _ (m : Meaning) (laws : Laws m) (e : Element) (k : Coordinates) (is : k �
             subst (λ (r : Result (Unit {0}) Refusal). Meets r (Ok (record { index = n; sublattices = sublattices; lattice = lattice; form = form })) (LocatedAt m e)) (sym q)
             (record {
               index = norm-is;
-              sublattices = then-is (norm-check m n) _ _ s;
+              sublattices = then-is (norm-check n) _ _ s;
               member = is-form .0;
               associate = is-form .1;
               canonical = is-form .2;

@@ -6,6 +6,7 @@ use refusal::Refusal;
 use ring::Coordinates;
 use ring::Element;
 use ring::Ring;
+use ring::within;
 
 /// The largest coordinate of an entry.
 const ENTRY: u64 = 99;
@@ -26,11 +27,7 @@ pub struct Location {
 fn admit_entry(k: Coordinates, e: Element) -> Result<(), Refusal>
     ensures { λ r. ⌜ r ≡ entry-check k e ⌝ }
 {
-    let second = match k {
-        Coordinates::One => 0,
-        Coordinates::Two(_, _) => ENTRY,
-    };
-    if e.x.unsigned_abs() <= ENTRY && e.y.unsigned_abs() <= second {
+    if within(k, ENTRY, e) {
         Ok(())
     } else {
         Err(Refusal::of(Cause::Coordinate))

@@ -1,7 +1,7 @@
 //! Elements and their coordinates.
 ghost use mathlib.Core.Path.{_≡_};
 ghost use Prim.Native.Nat.{_≤_};
-ghost use Rattle.ring.specs.Elements.{Within, admitted, norm-check, reach};
+ghost use Rattle.ring.specs.Elements.{Within, admits, admitted, norm-check, reach};
 ghost use Rattle.std.specs.Vec.{made};
 use refusal::Cause;
 use refusal::Refusal;
@@ -32,16 +32,23 @@ pub struct Division {
 /// The largest coordinate of an element that may be passed to a ring.
 const REACH: u64 = 1 << 30;
 
+/// Whether the coordinates lie from −`limit` to `limit`; the second one is 0 where a ring has one coordinate.
+pub fn within(k: Coordinates, limit: u64, e: Element) -> bool
+    ensures { λ r. ⌜ r ≡ admits k limit e ⌝ }
+{
+    let second = match k {
+        Coordinates::One => 0,
+        Coordinates::Two(_, _) => limit,
+    };
+    e.x.unsigned_abs() <= limit && e.y.unsigned_abs() <= second
+}
+
 /// Refuses an element with a coordinate out of the limits of a ring's calls.
 pub fn admit(k: Coordinates, e: Element) -> Result<(), Refusal>
     ensures value { λ r. ⌜ r ≡ admitted k e ⌝ }
     ensures bounds { λ r. ⌜ made r (λ _. Within reach e) ⌝ }
 {
-    let second = match k {
-        Coordinates::One => 0,
-        Coordinates::Two(_, _) => REACH,
-    };
-    if e.x.unsigned_abs() <= REACH && e.y.unsigned_abs() <= second {
+    if within(k, REACH, e) {
         Ok(())
     } else {
         Err(Refusal::of(Cause::Coordinate))

@@ -17,6 +17,7 @@ pub use elements::ElementEq;
 pub use elements::ElementPartialEq;
 pub use elements::admit;
 pub use elements::admit_norm;
+pub use elements::within;
 
 /// A ring with a norm and a division, one canonical element among associates, and numbered residues.
 ///

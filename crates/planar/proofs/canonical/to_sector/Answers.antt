@@ -11,7 +11,7 @@ loop-k-holds c = (refl, c .pre .x-bound, c .pre .y-bound, λ k h. absurd (omega 
 
 pub turn-of-turned-requires : need.turn-of-turned-requires
 turn-of-turned-requires c κs =
-    let b = low (c .loop-k .-k) (c .loop-k-test .taken) in
+    let b = low (c .loop-k .-k) (omega arith) in
     (omega (arith, b, c .loop-k .inv .1), omega (arith, b, c .loop-k .inv .2))
 
 pub loop-k-again : need.loop-k-again
