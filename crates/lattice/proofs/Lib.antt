@@ -4,3 +4,6 @@ pub mod Domain
 pub mod Reduction
 pub mod Unique
 pub mod Sites
+pub mod Closed
+pub mod Eliminate
+pub mod Existence

@@ -23,13 +23,13 @@ module _ {A : Type 0} {o : Ops A} (R : CommRing o) (e : Euclidean A) where
   in-first d h =
       (o .one, sym (Laws.one-mul R (h .0)), subst (In d (h .2)) (sym (vsub-one-scale R d (h .1) (h .1) ∙ vsub-self R d (h .1))) (in-zero d (h .2)))
 
-  combine-below : (d : ℕ) (qs : List A) (us : List (Vec A d)) → combine o (suc d) qs (map (λ v. (o .zero, v)) us) ≡ (o .zero, combine o d qs us)
+  pub combine-below : (d : ℕ) (qs : List A) (us : List (Vec A d)) → combine o (suc d) qs (map (λ v. (o .zero, v)) us) ≡ (o .zero, combine o d qs us)
   combine-below d [] us = refl
   combine-below d (q ∷ qs) [] = refl
   combine-below d (q ∷ qs) (u ∷ us) =
       ap (vadd o (suc d) (vscale o (suc d) q (o .zero, u))) (combine-below d qs us) ∙ cons (R .add-zero (o .mul q (o .zero)) ∙ Laws.mul-zero R q) refl
 
-  combine-first : (d : ℕ) (h : Form A (suc d)) (q : A) (qs : List A) → combine o (suc d) (q ∷ qs) (columns o e (suc d) h) ≡ (o .mul q (h .0), vadd o d (vscale o d q (h .1)) (combine o d qs (columns o e d (h .2))))
+  pub combine-first : (d : ℕ) (h : Form A (suc d)) (q : A) (qs : List A) → combine o (suc d) (q ∷ qs) (columns o e (suc d) h) ≡ (o .mul q (h .0), vadd o d (vscale o d q (h .1)) (combine o d qs (columns o e d (h .2))))
   combine-first d h q qs =
       ap (vadd o (suc d) (vscale o (suc d) q (h .0, h .1))) (combine-below d qs (columns o e d (h .2))) ∙ cons (R .add-zero (o .mul q (h .0))) refl
 

@@ -17,7 +17,7 @@ module _ {A : Type 0} {o : Ops A} (R : CommRing o) (e : Euclidean A) (L : Euclid
   Below d h k = (v : Vec A d) → In R e d h v → In R e d k v
 
   -- the vectors with first coordinate 0 are those of the smaller form
-  in-below : (d : ℕ) (h : Form A (suc d)) (v : Vec A d) → In R e d (h .2) v → In R e (suc d) h (o .zero, v)
+  pub in-below : (d : ℕ) (h : Form A (suc d)) (v : Vec A d) → In R e d (h .2) v → In R e (suc d) h (o .zero, v)
   in-below d h v i = (o .zero, sym (Laws.zero-mul R (h .0)), subst (In R e d (h .2)) (sym (vsub-zero-scale R d v (h .1))) i)
 
   below-in : (d : ℕ) (h : Form A (suc d)) → Hermite o e (suc d) h → (v : Vec A d) → In R e (suc d) h (o .zero, v) → In R e d (h .2) v

@@ -6,12 +6,28 @@ use Rattle.std.specs.shelf.Maps.{nth}
 use Rattle.std.specs.declared.option.Option.the-variants.{Some}
 use Rattle.algebra.specs.Ring.{CommRing, Ops}
 use Rattle.algebra.specs.Euclidean.{Euclidean, EuclideanLaws, Listed}
-use Rattle.lattice.specs.Vectors.{Vec, vsub}
+use mathlib.Core.List.{List}
+use Rattle.lattice.specs.Vectors.{Sublattice, Vec, vscale, vsub}
 use Rattle.lattice.specs.Forms.{Form, Hermite, Reduced, Spanned, index, sites}
 
 -- two Hermite forms with the same vectors are equal
 abbrev pub FormsAreUnique : Type 0 → Type 0
 FormsAreUnique A = (o : Ops A) → CommRing o → (e : Euclidean A) → EuclideanLaws o e → (d : ℕ) (h k : Form A d) → Hermite o e d h → Hermite o e d k → ((v : Vec A d) → Spanned o e d h v → Spanned o e d k v) → ((v : Vec A d) → Spanned o e d k v → Spanned o e d h v) → h ≡ k
+
+-- some n other than 0 takes every vector into the sublattice of the columns
+abbrev pub Full : {A : Type 0} → Ops A → (d : ℕ) → List (Vec A d) → Type 0
+Full {A} o d us = (n : A) × (n ≡ o .zero → ⊥) × ((v : Vec A d) → Sublattice o d us (vscale o d n v))
+
+-- a Hermite form with the same vectors as the columns
+pub record FormOf {A : Type 0} (o : Ops A) (e : Euclidean A) (d : ℕ) (us : List (Vec A d)) : Type 0 where
+  pub form : Form A d
+  pub hermite : Hermite o e d form
+  pub holds : (v : Vec A d) → Sublattice o d us v → Spanned o e d form v
+  pub only : (v : Vec A d) → Spanned o e d form v → Sublattice o d us v
+
+-- the columns of every sublattice of full rank have a Hermite form
+abbrev pub FormsExist : Type 0 → Type 0
+FormsExist A = (o : Ops A) → CommRing o → (e : Euclidean A) → EuclideanLaws o e → (d : ℕ) (us : List (Vec A d)) → Full o d us → FormOf o e d us
 
 -- modulo a Hermite form every vector is congruent to exactly one reduced vector
 pub record Reduction {A : Type 0} (o : Ops A) (e : Euclidean A) (d : ℕ) (h : Form A d) : Type 0 where

