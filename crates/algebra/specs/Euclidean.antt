@@ -37,16 +37,16 @@ pub record Divided {A : Type 0} (o : Ops A) (e : Euclidean A) (a b q r : A) : Ty
 
 pub record EuclideanLaws {A : Type 0} (o : Ops A) (e : Euclidean A) : Type 0 where
   pub no-zero-divisors : (a b : A) → o .mul a b ≡ o .zero → (a ≡ o .zero) ⊎ (b ≡ o .zero)
-  -- the norm is 0 only for 0, and a product's is the product
+  -- the norm tells 0 from the rest, and is multiplicative
   pub norm-zero : e .norm (o .zero) ≡ 0
   pub zero-from-norm : (a : A) → e .norm a ≡ 0 → a ≡ o .zero
   pub norm-mul : (a b : A) → e .norm (o .mul a b) ≡ e .norm a * e .norm b
   pub division : (a b : A) → (b ≡ o .zero → ⊥) → (q : A) × (r : A) × Divided o e a b q r
-  -- the units are the elements of norm 1, at most six
+  -- norm 1 marks the units, and there are few of them
   pub norm-unit : (u : A) → Invertible o u → e .norm u ≡ 1
   pub unit-from-norm : (u : A) → e .norm u ≡ 1 → Invertible o u
   pub few-units : (us : List A) × (length us ≤ 6) × ((u : A) → e .norm u ≡ 1 → Listed us u)
-  -- just one associate of each element is canonical, 0 and 1 are, and at most 8 of each norm up to 64
+  -- each class of associates has one canonical element; a norm up to 64 has a short list of them
   pub canonical-associate : (a : A) → (c : A) × Associate o a c × Canonical e c
   pub canonical-unique : (a b : A) → Canonical e a → Canonical e b → Associate o a b → a ≡ b
   pub zero-canonical : Canonical e (o .zero)
@@ -54,7 +54,7 @@ pub record EuclideanLaws {A : Type 0} (o : Ops A) (e : Euclidean A) : Type 0 whe
   pub canonical-norm : (n : ℕ) (c : A) → Listed (e .canonical n) c → e .norm c ≡ n
   pub canonical-once : (n i j : ℕ) (c : A) → nth (e .canonical n) i ≡ Some c → nth (e .canonical n) j ≡ Some c → i ≡ j
   pub few-canonical : (n : ℕ) → 1 ≤ n → n ≤ 64 → length (e .canonical n) ≤ 8
-  -- modulo m every element is congruent to just one of norm m residues, and 0 has number 0
+  -- the residues of m represent each class modulo m once, beginning with 0
   pub residues-count : (m : A) → Modulus o e m → length (e .residues m) ≡ e .norm m
   pub residues-first : (m : A) → Modulus o e m → nth (e .residues m) 0 ≡ Some (o .zero)
   pub residue-exists : (m : A) → Modulus o e m → (a : A) → (r : A) × Listed (e .residues m) r × Congruent o m a r

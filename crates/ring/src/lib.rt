@@ -1,4 +1,4 @@
-//! Rings behind one interface, whose meaning is the ring's exact arithmetic.
+//! One trait for every ring: its exact arithmetic, what else it has, and the laws that code above it may use.
 ghost use mathlib.Core.Path.{_≡_};
 ghost use Rattle.ring.specs.Answers.{sum-answer, product-answer, norm-answer, unit-answer, CanonicalAnswer, DivisionAnswer, ResidueAnswer, count-answer, canonical-element-answer, canonical-number-answer, residue-element-answer, residue-number-answer};
 ghost use Rattle.ring.specs.Meaning.{Meaning, Laws};

@@ -14,7 +14,7 @@ use refusal::Refusal;
 
 /// What is left of a text, the number of its first line, and what that line has to be.
 #[derive(Drop)]
-pub struct Reader<'a> {
+pub(super) struct Reader<'a> {
     rest: &'a [u8],
     line: u64,
     state: State,
@@ -24,7 +24,7 @@ pub struct Reader<'a> {
 
 impl<'a> Reader<'a> {
     /// A text of which nothing is read.
-    pub fn new(text: &'a [u8]) -> Reader<'a>
+    pub(super) fn new(text: &'a [u8]) -> Reader<'a>
         ensures rest { λ r. ⌜ now (r .rest) ≡ now (text .entry) ⌝ }
         ensures line { λ r. ⌜ r .line ≡ 1 ⌝ }
         ensures state { λ r. ⌜ r .state ≡ Ring ⌝ }
@@ -72,7 +72,7 @@ impl<'a> Reader<'a> {
     }
 
     /// Reads one line; a fault takes the line's number, and leaves the reader as it was.
-    pub fn step(&mut self) -> Result<(), Refusal>
+    pub(super) fn step(&mut self) -> Result<(), Refusal>
         ensures answer { λ r. ⌜ outcome r (now (self .exit) .state) (now (now (self .exit) .rest)) ≡ placed (now (self .entry) .line) (line-answer (now (self .entry) .state) (now (now (self .entry) .rest))) ⌝ }
         ensures line { λ r. ⌜ now (self .exit) .line ≡ counted r (now (self .entry) .line) ⌝ }
         ensures kept { λ r. ⌜ Kept r (now (self .entry) .state) (now (now (self .entry) .rest)) (now (self .exit) .state) (now (now (self .exit) .rest)) ⌝ }
@@ -92,7 +92,7 @@ impl<'a> Reader<'a> {
     }
 
     /// The request, if the text ends after its last line.
-    pub fn finish(&self) -> Result<Request, Refusal>
+    pub(super) fn finish(&self) -> Result<Request, Refusal>
         ensures { λ r. ⌜ r ≡ finished (now (self .entry) .line) (now (self .entry) .state) (now (now (self .entry) .rest)) ⌝ }
     {
         match (self.state, self.rest) {

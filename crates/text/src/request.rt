@@ -45,7 +45,7 @@ pub struct Request {
 }
 
 /// The ring of the letter.
-pub fn ring_name(bytes: &[u8]) -> Result<RingName, Cause>
+pub(super) fn ring_name(bytes: &[u8]) -> Result<RingName, Cause>
     ensures { λ r. ⌜ r ≡ ring-answer (now (bytes .entry)) ⌝ }
 {
     match bytes {
@@ -57,7 +57,7 @@ pub fn ring_name(bytes: &[u8]) -> Result<RingName, Cause>
 }
 
 /// A rank is a number from 1 to 3.
-pub fn rank(bytes: &[u8]) -> Result<u8, Cause>
+pub(super) fn rank(bytes: &[u8]) -> Result<u8, Cause>
     ensures { λ r. ⌜ r ≡ rank-answer (now (bytes .entry)) ⌝ }
 {
     match number(bytes)? {

@@ -4,7 +4,7 @@ use super::request::RingName;
 
 /// What the next line has to be, with what the lines before it said.
 #[derive(Clone, Copy)]
-pub enum State {
+pub(super) enum State {
     Ring,
     Rank { ring: RingName },
     Matrix { ring: RingName, rank: u8 },
