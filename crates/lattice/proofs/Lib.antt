@@ -7,3 +7,4 @@ pub mod Sites
 pub mod Closed
 pub mod Eliminate
 pub mod Existence
+pub mod Cramer

@@ -1,3 +1,4 @@
 pub mod Vectors
 pub mod Forms
 pub mod Statements
+pub mod Determinants

@@ -6,8 +6,9 @@ use Rattle.std.specs.shelf.Maps.{nth}
 use Rattle.std.specs.declared.option.Option.the-variants.{Some}
 use Rattle.algebra.specs.Ring.{CommRing, Ops}
 use Rattle.algebra.specs.Euclidean.{Euclidean, EuclideanLaws, Listed}
-use mathlib.Core.List.{List}
+use mathlib.Core.List.{List, [], _∷_}
 use Rattle.lattice.specs.Vectors.{Sublattice, Vec, vscale, vsub}
+use Rattle.lattice.specs.Determinants.{det}
 use Rattle.lattice.specs.Forms.{Form, Hermite, Reduced, Spanned, index, sites}
 
 -- two Hermite forms with the same vectors are equal
@@ -17,6 +18,15 @@ FormsAreUnique A = (o : Ops A) → CommRing o → (e : Euclidean A) → Euclidea
 -- some n other than 0 takes every vector into the sublattice of the columns
 abbrev pub Full : {A : Type 0} → Ops A → (d : ℕ) → List (Vec A d) → Type 0
 Full {A} o d us = (n : A) × (n ≡ o .zero → ⊥) × ((v : Vec A d) → Sublattice o d us (vscale o d n v))
+
+-- the determinant of as many columns as the rank, where it is not 0, takes every vector into their sublattice
+pub record FullByDeterminant {A : Type 0} (o : Ops A) : Type 0 where
+  pub one : (a : Vec A 1) → (det o 1 (a ∷ []) ≡ o .zero → ⊥) → Full o 1 (a ∷ [])
+  pub two : (a b : Vec A 2) → (det o 2 (a ∷ b ∷ []) ≡ o .zero → ⊥) → Full o 2 (a ∷ b ∷ [])
+  pub three : (a b c : Vec A 3) → (det o 3 (a ∷ b ∷ c ∷ []) ≡ o .zero → ⊥) → Full o 3 (a ∷ b ∷ c ∷ [])
+
+abbrev pub DeterminantsFill : Type 0 → Type 0
+DeterminantsFill A = (o : Ops A) → CommRing o → FullByDeterminant o
 
 -- a Hermite form with the same vectors as the columns
 pub record FormOf {A : Type 0} (o : Ops A) (e : Euclidean A) (d : ℕ) (us : List (Vec A d)) : Type 0 where

@@ -1,11 +1,18 @@
 //! Sublattices as sets of vectors, and their Hermite forms, over every ring that keeps the laws and in every rank.
 //!
 //! This crate holds theorems: each function stands for the one that its contract names.
-ghost use Rattle.lattice.specs.Statements.{FormsAreUnique, FormsExist, SitesAreCounted, VectorsReduce};
+ghost use Rattle.lattice.specs.Statements.{DeterminantsFill, FormsAreUnique, FormsExist, SitesAreCounted, VectorsReduce};
 
 /// Every sublattice of full rank that columns generate has a Hermite form.
 pub fn forms_exist<C>() -> u8
     ensures { λ _. ⌜ FormsExist C ⌝ }
+{
+    0
+}
+
+/// In ranks 1 to 3, columns whose determinant is not 0 generate a sublattice of full rank.
+pub fn determinants_fill<C>() -> u8
+    ensures { λ _. ⌜ DeterminantsFill C ⌝ }
 {
     0
 }
