@@ -1,7 +1,6 @@
 -- Cramer's rule: the determinant times any vector is a sum of the columns.
-use mathlib.Core.Path.{_≡_, refl, sym, ap, _∙_}
+use mathlib.Core.Path.{_≡_, refl}
 use mathlib.Core.List.{List, [], _∷_}
-use Prim.Native.Nat.{ℕ}
 use Rattle.algebra.specs.Ring.{CommRing, Ops}
 use Rattle.algebra.proofs.Quote.{quote, ring}
 use Rattle.lattice.specs.Vectors.{Sublattice, Vec, vscale}

@@ -8,3 +8,5 @@ pub mod Closed
 pub mod Eliminate
 pub mod Existence
 pub mod Cramer
+pub mod Multiplicative
+pub mod Index

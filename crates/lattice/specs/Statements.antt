@@ -39,6 +39,15 @@ pub record FormOf {A : Type 0} (o : Ops A) (e : Euclidean A) (d : ℕ) (us : Lis
 abbrev pub FormsExist : Type 0 → Type 0
 FormsExist A = (o : Ops A) → CommRing o → (e : Euclidean A) → EuclideanLaws o e → (d : ℕ) (us : List (Vec A d)) → Full o d us → FormOf o e d us
 
+-- the index of the Hermite form is the norm of the determinant
+pub record IndexByDeterminant {A : Type 0} (o : Ops A) (e : Euclidean A) : Type 0 where
+  pub one : (a : Vec A 1) (f : FormOf o e 1 (a ∷ [])) → e .norm (det o 1 (a ∷ [])) ≡ index o e 1 (f .form)
+  pub two : (a b : Vec A 2) (f : FormOf o e 2 (a ∷ b ∷ [])) → e .norm (det o 2 (a ∷ b ∷ [])) ≡ index o e 2 (f .form)
+  pub three : (a b c : Vec A 3) (f : FormOf o e 3 (a ∷ b ∷ c ∷ [])) → e .norm (det o 3 (a ∷ b ∷ c ∷ [])) ≡ index o e 3 (f .form)
+
+abbrev pub IndexIsNorm : Type 0 → Type 0
+IndexIsNorm A = (o : Ops A) → CommRing o → (e : Euclidean A) → EuclideanLaws o e → IndexByDeterminant o e
+
 -- modulo a Hermite form every vector is congruent to exactly one reduced vector
 pub record Reduction {A : Type 0} (o : Ops A) (e : Euclidean A) (d : ℕ) (h : Form A d) : Type 0 where
   pub exists : (v : Vec A d) → (r : Vec A d) × Reduced o e d h r × Spanned o e d h (vsub o d v r)

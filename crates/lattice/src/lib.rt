@@ -1,7 +1,7 @@
 //! Sublattices as sets of vectors, and their Hermite forms, over every ring that keeps the laws and in every rank.
 //!
 //! This crate holds theorems: each function stands for the one that its contract names.
-ghost use Rattle.lattice.specs.Statements.{DeterminantsFill, FormsAreUnique, FormsExist, SitesAreCounted, VectorsReduce};
+ghost use Rattle.lattice.specs.Statements.{DeterminantsFill, FormsAreUnique, FormsExist, IndexIsNorm, SitesAreCounted, VectorsReduce};
 
 /// Every sublattice of full rank that columns generate has a Hermite form.
 pub fn forms_exist<C>() -> u8
@@ -20,6 +20,13 @@ pub fn determinants_fill<C>() -> u8
 /// Two Hermite forms with the same vectors are equal.
 pub fn forms_are_unique<C>() -> u8
     ensures { λ _. ⌜ FormsAreUnique C ⌝ }
+{
+    0
+}
+
+/// In ranks 1 to 3, the index of the Hermite form of a matrix is the norm of its determinant.
+pub fn index_is_norm<C>() -> u8
+    ensures { λ _. ⌜ IndexIsNorm C ⌝ }
 {
     0
 }
