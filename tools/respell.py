@@ -4,7 +4,8 @@
 usage: python3 tools/respell.py     at the top of the repository, once
 
 The names stand in respell.txt beside this script, old and new on a line. A name is replaced where it is a whole
-word of antt: in specs/ and proofs/, and in the ghost parts of src/. Words of the program keep their spelling.
+word of antt: in specs/, proofs/ and must-fail/, and in the ghost parts of src/. Words of the program keep their
+spelling.
 """
 
 import pathlib
@@ -21,7 +22,7 @@ def respelled(text):
 
 
 def main():
-    for kind in ("*.antt", "*.rt"):
+    for kind in ("*.antt", "*.rt", "*.edit"):
         for path in sorted(CRATES.rglob(kind)):
             if "out" in path.parts:
                 continue

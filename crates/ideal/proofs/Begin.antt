@@ -7,10 +7,10 @@ use Rattle.ring.specs.declared.elements.Coordinates.{Coordinates}
 use Rattle.ring.specs.declared.elements.Element.{Element}
 use Rattle.ring.specs.Elements.{admits, admitted, reach, value}
 use Rattle.ring.specs.Meaning.{Laws, Meaning}
-use Rattle.ring.specs.Answers.{divisor-check, norm-answer, norm-of, one-check}
+use Rattle.ring.specs.Answers.{divisor_check, norm_answer, norm_of, one_check}
 use Rattle.ring.proofs.Checks.{passes, refuses}
 use Rattle.ring.proofs.Rings.{ops_ring}
-use Rattle.ideal.specs.Answers.{GeneratorAnswer, generator-check, size-check}
+use Rattle.ideal.specs.Answers.{GeneratorAnswer, generator_check, size_check}
 use Rattle.ideal.proofs.Euclid.{same_start}
 use Rattle.ideal.proofs.Measured.{measured, not_measured, not_nought, nought, large, not_large}
 use Rattle.ideal.proofs.Turns.{Turn}
@@ -22,37 +22,37 @@ module _ (m : Meaning) (l : Laws m) (k : Coordinates) (is : k ≡ m.coordinates)
 
   pub refused_dividend : (x : Refusal) → Err x ≡ admitted k a → GeneratorAnswer m a b (Err x)
   refused_dividend x h =
-      refuses (generator-check m a b) _ x (ap (λ (j : Result (Unit {0}) Refusal). then (then j (one-check m b)) (then (size-check m b) (divisor-check m b))) (sym (h ∙ at_meaning)))
+      refuses (generator_check m a b) _ x (ap (λ (j : Result (Unit {0}) Refusal). then (then j (one_check m b)) (then (size_check m b) (divisor_check m b))) (sym (h ∙ at_meaning)))
 
   module _ (o : Ok tt ≡ admitted k a) where
-    past_dividend : generator-check m a b ≡ then (one-check m b) (then (size-check m b) (divisor-check m b))
-    past_dividend = ap (λ (j : Result (Unit {0}) Refusal). then (then j (one-check m b)) (then (size-check m b) (divisor-check m b))) (sym (o ∙ at_meaning))
+    past_dividend : generator_check m a b ≡ then (one_check m b) (then (size_check m b) (divisor_check m b))
+    past_dividend = ap (λ (j : Result (Unit {0}) Refusal). then (then j (one_check m b)) (then (size_check m b) (divisor_check m b))) (sym (o ∙ at_meaning))
 
-    pub refused_divisor : (x : Refusal) → Err x ≡ norm-answer m b → GeneratorAnswer m a b (Err x)
+    pub refused_divisor : (x : Refusal) → Err x ≡ norm_answer m b → GeneratorAnswer m a b (Err x)
     refused_divisor x h =
-        refuses (generator-check m a b) _ x (past_dividend ∙ ap (λ (j : Result (Unit {0}) Refusal). then j (then (size-check m b) (divisor-check m b))) (not_measured (admits m.coordinates reach b) (norm-of m b) x h))
+        refuses (generator_check m a b) _ x (past_dividend ∙ ap (λ (j : Result (Unit {0}) Refusal). then j (then (size_check m b) (divisor_check m b))) (not_measured (admits m.coordinates reach b) (norm_of m b) x h))
 
-    module _ (size : ℕ) (p : Ok size ≡ norm-answer m b) where
-      fits : (one-check m b ≡ Ok tt) × (size ≡ norm-of m b)
-      fits = measured (admits m.coordinates reach b) (norm-of m b) size p
+    module _ (size : ℕ) (p : Ok size ≡ norm_answer m b) where
+      fits : (one_check m b ≡ Ok tt) × (size ≡ norm_of m b)
+      fits = measured (admits m.coordinates reach b) (norm_of m b) size p
 
-      past_both : generator-check m a b ≡ then (size-check m b) (divisor-check m b)
-      past_both = past_dividend ∙ passes (one-check m b) tt _ fits.0
+      past_both : generator_check m a b ≡ then (size_check m b) (divisor_check m b)
+      past_both = past_dividend ∙ passes (one_check m b) tt _ fits.0
 
       pub refused_size : 2 ^ 29 < size → GeneratorAnswer m a b (Err (refused Coordinate 0))
       refused_size h =
-          refuses (generator-check m a b) _ _ (past_both ∙ ap (λ (j : Result (Unit {0}) Refusal). then j (divisor-check m b)) (large m l b (omega (arith, fits.1))))
+          refuses (generator_check m a b) _ _ (past_both ∙ ap (λ (j : Result (Unit {0}) Refusal). then j (divisor_check m b)) (large m l b (omega (arith, fits.1))))
 
       module _ (h : size ≤ 2 ^ 29) where
-        last_check : generator-check m a b ≡ divisor-check m b
-        last_check = past_both ∙ passes (size-check m b) tt _ (not_large m l b (omega (arith, fits.1)))
+        last_check : generator_check m a b ≡ divisor_check m b
+        last_check = past_both ∙ passes (size_check m b) tt _ (not_large m l b (omega (arith, fits.1)))
 
         pub refused_zero : size ≡ 0 → GeneratorAnswer m a b (Err (refused NoModulus 0))
-        refused_zero e = refuses (generator-check m a b) _ _ (last_check ∙ nought m l b (omega (arith, fits.1)))
+        refused_zero e = refuses (generator_check m a b) _ _ (last_check ∙ nought m l b (omega (arith, fits.1)))
 
         pub first_turn : (size ≡ 0 → ⊥) → Turn m a b a b
         first_turn n =
-            let z : norm-of m b ≡ 0 → ⊥ = λ e. n (fits.1 ∙ e) in
+            let z : norm_of m b ≡ 0 → ⊥ = λ e. n (fits.1 ∙ e) in
             record {
               checked = last_check ∙ not_nought m l b z;
               dividend_fits = sym (o ∙ at_meaning);

@@ -8,7 +8,7 @@ use Rattle.ring.specs.declared.elements.Coordinates.TheVariants.{One, Two}
 use Rattle.ring.specs.declared.elements.Element.{Element}
 use Rattle.ring.specs.Elements.{Member, Within, admits, admitted, element, reach, value}
 use Rattle.ring.specs.Meaning.{Laws, Meaning}
-use Rattle.ring.specs.Answers.{norm-of}
+use Rattle.ring.specs.Answers.{norm_of}
 
 admits_within : (k : Coordinates) (n : ℕ) (e : Element) → n ≤ reach → Member k e → Within n (element k (value k e)) → admits k reach e ≡ true
 admits_within One n e h m w =
@@ -16,6 +16,6 @@ admits_within One n e h m w =
 admits_within (Two a b) n e h m w =
     and_from _ _ (le-leb (nat_abs e.x) reach (omega (arith, w.x_bound))) (le-leb (nat_abs e.y) reach (omega (arith, w.y_bound)))
 
-pub small_admitted : (m : Meaning) → Laws m → (e : Element) → Member m.coordinates e → norm-of m e ≤ 2 ^ 29 → admitted m.coordinates e ≡ Ok tt
+pub small_admitted : (m : Meaning) → Laws m → (e : Element) → Member m.coordinates e → norm_of m e ≤ 2 ^ 29 → admitted m.coordinates e ≡ Ok tt
 small_admitted m l e s h =
-    ap (λ (t : Bool). cond t (Ok tt) (refuse Coordinate)) (admits_within m.coordinates (2 * norm-of m e) e (omega arith) s (l.norm_bounds (value m.coordinates e)))
+    ap (λ (t : Bool). cond t (Ok tt) (refuse Coordinate)) (admits_within m.coordinates (2 * norm_of m e) e (omega arith) s (l.norm_bounds (value m.coordinates e)))

@@ -7,9 +7,9 @@ use Rattle.refusal.specs.Numbers.{refuse, refused, then}
 use Rattle.ring.specs.declared.elements.Element.{Element}
 use Rattle.ring.specs.Elements.{value}
 use Rattle.ring.specs.Meaning.{Laws, Meaning}
-use Rattle.ring.specs.Answers.{divisor-check, is_zero, norm-of}
+use Rattle.ring.specs.Answers.{divisor_check, is_zero, norm_of}
 use Rattle.ring.proofs.Places.{same-zero, zero_same}
-use Rattle.ideal.specs.Answers.{size-check}
+use Rattle.ideal.specs.Answers.{size_check}
 use Rattle.ideal.proofs.Gates.{gate}
 
 -- what the answer to a question for the norm tells
@@ -23,14 +23,14 @@ not_measured false n x h = cc
 
 module _ (m : Meaning) (l : Laws m) (y : Element) where
   -- the norm is 0 for 0 alone
-  pub not_nought : (norm-of m y ≡ 0 → ⊥) → divisor-check m y ≡ Ok tt
+  pub not_nought : (norm_of m y ≡ 0 → ⊥) → divisor_check m y ≡ Ok tt
   not_nought h = elim (cases_Bool (is_zero m y)) [ inl e ↦ absurd (h (ap m.euclidean.norm (zero_same m y e) ∙ l.euclidean.norm-zero)) | inr e ↦ ap (λ (t : Bool). cond t (refuse NoModulus) (Ok tt)) e ]
 
-  pub nought : norm-of m y ≡ 0 → divisor-check m y ≡ Err (refused NoModulus 0)
+  pub nought : norm_of m y ≡ 0 → divisor_check m y ≡ Err (refused NoModulus 0)
   nought h = ap (λ (t : Bool). cond t (refuse NoModulus) (Ok tt)) (same-zero m y (l.euclidean.zero_from_norm (value m.coordinates y) h))
 
-  pub large : 2 ^ 29 < norm-of m y → size-check m y ≡ Err (refused Coordinate 0)
-  large h = ap (λ (t : Bool). cond t (Ok tt) (refuse Coordinate)) (lt-leb (norm-of m y) (2 ^ 29) h)
+  pub large : 2 ^ 29 < norm_of m y → size_check m y ≡ Err (refused Coordinate 0)
+  large h = ap (λ (t : Bool). cond t (Ok tt) (refuse Coordinate)) (lt-leb (norm_of m y) (2 ^ 29) h)
 
-  pub not_large : norm-of m y ≤ 2 ^ 29 → size-check m y ≡ Ok tt
-  not_large h = ap (λ (t : Bool). cond t (Ok tt) (refuse Coordinate)) (le-leb (norm-of m y) (2 ^ 29) h)
+  pub not_large : norm_of m y ≤ 2 ^ 29 → size_check m y ≡ Ok tt
+  not_large h = ap (λ (t : Bool). cond t (Ok tt) (refuse Coordinate)) (le-leb (norm_of m y) (2 ^ 29) h)

@@ -10,7 +10,7 @@ use Rattle.ring.specs.declared.elements.Coordinates.TheVariants.{One}
 use Rattle.ring.specs.declared.elements.Division.{Division}
 use Rattle.ring.specs.declared.elements.Element.{Element}
 use Rattle.ring.specs.Elements.{admitted, element, same_whole}
-use Rattle.ring.specs.Answers.{CanonicalAnswer, DivisionAnswer, ResidueAnswer, divisor-check, modulus-check, one-check, residue-element-answer, residue-number-answer, residue-place, two-check}
+use Rattle.ring.specs.Answers.{CanonicalAnswer, DivisionAnswer, ResidueAnswer, divisor_check, modulus_check, one_check, residue_element_answer, residue_number_answer, residue_place, two_check}
 use Rattle.ring.proofs.Checks.{meets, passes}
 use Rattle.ring.proofs.Places.{place_nth, place_none, same_refl, same_true}
 use Rattle.integers.specs.Integers.{integers, residues}
@@ -23,9 +23,9 @@ whole x = record { x = x; y = pos 0 }
 
 module _ (a : Element) (p : Ok tt ≡ admitted One a) where
   pub canonical_is : (w : Element) → w ≡ whole (pos (nat_abs a.x)) → CanonicalAnswer integers a (Ok w)
-  canonical_is w e = subst (λ (v : Element). CanonicalAnswer integers a (Ok v)) (sym e) (meets (one-check integers a) _ _ (sym p) (refl, size_associate a.x, (0, refl)))
+  canonical_is w e = subst (λ (v : Element). CanonicalAnswer integers a (Ok v)) (sym e) (meets (one_check integers a) _ _ (sym p) (refl, size_associate a.x, (0, refl)))
 
-two_pass : (a b : Element) → Ok tt ≡ admitted One a → Ok tt ≡ admitted One b → two-check integers a b ≡ Ok tt
+two_pass : (a b : Element) → Ok tt ≡ admitted One a → Ok tt ≡ admitted One b → two_check integers a b ≡ Ok tt
 two_pass a b p q = passes (admitted One a) tt (admitted One b) (sym p) ∙ sym q
 
 not_nought : (x : ℤ) → 0 < nat_abs x → same_whole x (pos 0) ≡ false
@@ -34,36 +34,36 @@ not_nought (negsuc x) h = refl
 
 pub quotient_is : (a b : Element) → Ok tt ≡ admitted One a → Ok tt ≡ admitted One b → 0 < nat_abs b.x → (v w : Element) → v ≡ whole (int_div_euclid a.x b.x) → w ≡ whole (int_rem_euclid a.x b.x) → DivisionAnswer integers a b (Ok record { quotient = v; remainder = w })
 quotient_is a b p q h v w e f =
-    subst (λ (d : Division). DivisionAnswer integers a b (Ok d)) (ap₂ (λ (s t : Element). record { quotient = s; remainder = t }) (sym e) (sym f)) (meets (then (two-check integers a b) (divisor-check integers b)) _ _ (passes (two-check integers a b) tt (divisor-check integers b) (two_pass a b p q) ∙ ap (λ (t : Bool). cond t (refuse NoModulus) (Ok tt)) (not_nought b.x h)) (refl, refl, record { sum = divided a.x b.x h; smaller = remainder_small a.x b.x h }))
+    subst (λ (d : Division). DivisionAnswer integers a b (Ok d)) (ap₂ (λ (s t : Element). record { quotient = s; remainder = t }) (sym e) (sym f)) (meets (then (two_check integers a b) (divisor_check integers b)) _ _ (passes (two_check integers a b) tt (divisor_check integers b) (two_pass a b p q) ∙ ap (λ (t : Bool). cond t (refuse NoModulus) (Ok tt)) (not_nought b.x h)) (refl, refl, record { sum = divided a.x b.x h; smaller = remainder_small a.x b.x h }))
 
-pub residue_is : (a m : Element) → Ok tt ≡ admitted One a → Ok tt ≡ admitted One m → Ok tt ≡ modulus-check integers m → 0 < nat_abs m.x → (w : Element) → w ≡ whole (int_rem_euclid a.x m.x) → ResidueAnswer integers a m (Ok w)
+pub residue_is : (a m : Element) → Ok tt ≡ admitted One a → Ok tt ≡ admitted One m → Ok tt ≡ modulus_check integers m → 0 < nat_abs m.x → (w : Element) → w ≡ whole (int_rem_euclid a.x m.x) → ResidueAnswer integers a m (Ok w)
 residue_is a m p q o h w e =
-    subst (λ (v : Element). ResidueAnswer integers a m (Ok v)) (sym e) (meets (then (two-check integers a m) (modulus-check integers m)) _ _ (passes (two-check integers a m) tt (modulus-check integers m) (two_pass a m p q) ∙ sym o) (refl, remainder_listed a.x m.x h, remainder_congruent a.x m.x h))
+    subst (λ (v : Element). ResidueAnswer integers a m (Ok v)) (sym e) (meets (then (two_check integers a m) (modulus_check integers m)) _ _ (passes (two_check integers a m) tt (modulus_check integers m) (two_pass a m p q) ∙ sym o) (refl, remainder_listed a.x m.x h, remainder_congruent a.x m.x h))
 
-module _ (m : Element) (p : Ok tt ≡ admitted One m) (o : Ok tt ≡ modulus-check integers m) (i : ℕ) where
+module _ (m : Element) (p : Ok tt ≡ admitted One m) (o : Ok tt ≡ modulus_check integers m) (i : ℕ) where
   abbrev answer_at : Option ℤ → Result Element Refusal
   answer_at r = ok_or (option_map (element One) r) (refused Outside 0)
 
-  listed_answer : residue-element-answer integers m i ≡ answer_at (slice_get (residues m.x) i)
-  listed_answer = passes (then (one-check integers m) (modulus-check integers m)) tt _ (passes (one-check integers m) tt (modulus-check integers m) (sym p) ∙ sym o)
+  listed_answer : residue_element_answer integers m i ≡ answer_at (slice_get (residues m.x) i)
+  listed_answer = passes (then (one_check integers m) (modulus_check integers m)) tt _ (passes (one_check integers m) tt (modulus_check integers m) (sym p) ∙ sym o)
 
-  pub residue_element_is : i < nat_abs m.x → residue-element-answer integers m i ≡ Ok (whole (pos i))
+  pub residue_element_is : i < nat_abs m.x → residue_element_answer integers m i ≡ Ok (whole (pos i))
   residue_element_is h = listed_answer ∙ ap answer_at (residue_at m.x i h)
 
-  pub residue_element_past : nat_abs m.x ≤ i → residue-element-answer integers m i ≡ Err (refused Outside 0)
+  pub residue_element_past : nat_abs m.x ≤ i → residue_element_answer integers m i ≡ Err (refused Outside 0)
   residue_element_past h = listed_answer ∙ ap answer_at (residue_past m.x i h)
 
-module _ (m a : Element) (p : Ok tt ≡ admitted One m) (q : Ok tt ≡ admitted One a) (o : Ok tt ≡ modulus-check integers m) where
+module _ (m a : Element) (p : Ok tt ≡ admitted One m) (q : Ok tt ≡ admitted One a) (o : Ok tt ≡ modulus_check integers m) where
   abbrev number_answer : Option ℕ → Result ℕ Refusal
   number_answer r = ok_or r (refused Outside 0)
 
-  placed_answer : residue-number-answer integers m a ≡ number_answer (residue-place integers m a)
-  placed_answer = passes (then (two-check integers m a) (modulus-check integers m)) tt _ (passes (two-check integers m a) tt (modulus-check integers m) (two_pass m a p q) ∙ sym o)
+  placed_answer : residue_number_answer integers m a ≡ number_answer (residue_place integers m a)
+  placed_answer = passes (then (two_check integers m a) (modulus_check integers m)) tt _ (passes (two_check integers m a) tt (modulus_check integers m) (two_pass m a p q) ∙ sym o)
 
-  pub residue_number_is : (i : ℕ) → a.x ≡ pos i → i < nat_abs m.x → residue-number-answer integers m a ≡ Ok i
+  pub residue_number_is : (i : ℕ) → a.x ≡ pos i → i < nat_abs m.x → residue_number_answer integers m a ≡ Ok i
   residue_number_is i e h =
       placed_answer ∙ ap number_answer (place_nth (same_whole) (same_true One) (same_refl One) a.x (residues m.x) i (residue_at m.x i h ∙ ap Some (sym e)) (λ j l. let f = residue_listed m.x a.x j l in omega (arith, ap nat_abs f.1, ap nat_abs e)))
 
-  pub residue_number_none : ((i : ℕ) → a.x ≡ pos i → i < nat_abs m.x → ⊥) → residue-number-answer integers m a ≡ Err (refused Outside 0)
+  pub residue_number_none : ((i : ℕ) → a.x ≡ pos i → i < nat_abs m.x → ⊥) → residue_number_answer integers m a ≡ Err (refused Outside 0)
   residue_number_none h =
       placed_answer ∙ ap number_answer (place_none (same_whole) (same_true One) (same_refl One) a.x (residues m.x) (λ i l. let f = residue_listed m.x a.x i l in h i f.1 f.0))

@@ -1,6 +1,6 @@
 //! The integers as a ring.
 ghost use Rattle.std.specs.Prelude.{◌≡◌, pos, ◌≤ℤ◌, ◌<ℤ◌, IfOk, OnOk};
-ghost use Rattle.ring.specs.Answers.{DivisionAnswer, modulus-check};
+ghost use Rattle.ring.specs.Answers.{DivisionAnswer, modulus_check};
 ghost use Rattle.integers.specs.Integers.{integers};
 ghost use Rattle.integers.specs.Laws.{integers_laws};
 
@@ -19,7 +19,7 @@ fn whole(x: i64) -> Element
 
 // Refuses what is not positive: a negative number is not canonical, and modulo 0 there is no finite list of residues.
 fn check_modulus(m: Element) -> Result<(), Refusal>
-    ensures value { result ≡ modulus-check integers m }
+    ensures value { result ≡ modulus_check integers m }
     ensures positive { OnOk result (pos 0 <ℤ m.x) }
 {
     if 0 < m.x {

@@ -13,7 +13,7 @@ use Rattle.ring.specs.declared.elements.Element.{Element}
 use Rattle.ring.specs.declared.elements.Coordinates.{Coordinates}
 use Rattle.ring.specs.declared.elements.Coordinates.TheVariants.{One, Two}
 use Rattle.ring.specs.Elements.{Member, Within, admits, admitted, element, norm_check, ops, reach, same, value}
-use Rattle.ring.specs.Answers.{CanonicalAnswer, Meets, canonical-number-answer, canonical-place, count-answer, is_zero, norm-answer, norm-of, one-check}
+use Rattle.ring.specs.Answers.{CanonicalAnswer, Meets, canonical_number_answer, canonical_place, count_answer, is_zero, norm_answer, norm_of, one_check}
 use Rattle.ring.specs.Meaning.{Laws, Meaning}
 use Rattle.ring.proofs.Places.{nth_place, place-Listed, same_refl, same_true, same-zero, zero_same}
 use Rattle.location.specs.Located.{LocatedAt, Located, entry_check, index_check, location_check, singular_check}
@@ -58,8 +58,8 @@ module _ (m : Meaning) (laws : Laws m) (e : Element) (k : Coordinates) (is : k �
   entry_reach : admitted m.coordinates e ≡ Ok tt
   entry_reach = cond-true _ _ _ (reach_from m.coordinates e entry_admits)
 
-  pub norm_passes : (f : Refusal) → Err f ≡ norm-answer m e → ⊥
-  norm_passes f q = no_fault f (norm-of m e) (q ∙ ap (λ (r : Result (Unit {0}) Refusal). then r (Ok (norm-of m e))) entry_reach)
+  pub norm_passes : (f : Refusal) → Err f ≡ norm_answer m e → ⊥
+  norm_passes f q = no_fault f (norm_of m e) (q ∙ ap (λ (r : Result (Unit {0}) Refusal). then r (Ok (norm_of m e))) entry_reach)
 
   after_entry : location_check m e ≡ then (singular_check m e) (index_check m e)
   after_entry = ap (λ (b : Bool). then (cond b (Ok tt) (refuse Coordinate)) (then (singular_check m e) (index_check m e))) entry_admits
@@ -67,9 +67,9 @@ module _ (m : Meaning) (laws : Laws m) (e : Element) (k : Coordinates) (is : k �
   refuses : (f : Refusal) (c : Cause) → f ≡ refused c 0 → location_check m e ≡ refuse c → Located m e (Err f)
   refuses f c q h = subst (λ (r : Result (Unit {0}) Refusal). Meets r (Err f) (LocatedAt m e)) (sym h) (ap Err q)
 
-  module _ (n : ℕ) (norm : Ok n ≡ norm-answer m e) where
-    norm_is : n ≡ norm-of m e
-    norm_is = then_is (one-check m e) n (norm-of m e) norm
+  module _ (n : ℕ) (norm : Ok n ≡ norm_answer m e) where
+    norm_is : n ≡ norm_of m e
+    norm_is = then_is (one_check m e) n (norm_of m e) norm
 
     -- only 0 has norm 0
     pub singular : (f : Refusal) → n ≡ 0 → f ≡ refused Singular 0 → Located m e (Err f)
@@ -96,31 +96,31 @@ module _ (m : Meaning) (laws : Laws m) (e : Element) (k : Coordinates) (is : k �
         is_form = subst (λ (r : Result (Unit {0}) Refusal). Meets r (Ok form) (λ c. Member m.coordinates c × Associate (ops m.coordinates) (value m.coordinates e) (value m.coordinates c) × Canonical m.euclidean (value m.coordinates c))) entry_reach answer
 
         -- associates have one norm
-        form-norm : norm-of m form ≡ n
+        form-norm : norm_of m form ≡ n
         form-norm =
             let a = is_form.1 in
             ap m.euclidean.norm a.2
             ∙ laws.euclidean.norm-mul a.0 (value m.coordinates e)
-            ∙ ap (λ (j : ℕ). j * norm-of m e) (laws.euclidean.norm_unit a.0 a.1)
-            ∙ one-mul (norm-of m e)
+            ∙ ap (λ (j : ℕ). j * norm_of m e) (laws.euclidean.norm_unit a.0 a.1)
+            ∙ one-mul (norm_of m e)
             ∙ sym norm_is
 
         form_reach : admitted m.coordinates form ≡ Ok tt
-        form_reach = cond-true _ _ _ (admits_small m.coordinates form (2 * norm-of m form) (omega (arith, form-norm)) is_form.0 (laws.norm_bounds (value m.coordinates form)))
+        form_reach = cond-true _ _ _ (admits_small m.coordinates form (2 * norm_of m form) (omega (arith, form-norm)) is_form.0 (laws.norm_bounds (value m.coordinates form)))
 
-        place_is : (i : ℕ) × (canonical-place m form ≡ Some i)
+        place_is : (i : ℕ) × (canonical_place m form ≡ Some i)
         place_is = place-Listed (same m.coordinates) (same_true m.coordinates) (same_refl m.coordinates) (value m.coordinates form) _ is_form.2.0 is_form.2.1
 
-        number_is : canonical-number-answer m form ≡ Ok place_is.0
+        number_is : canonical_number_answer m form ≡ Ok place_is.0
         number_is =
-            ap (λ (r : Result (Unit {0}) Refusal). then r (cond (leb 1 (norm-of m form) && leb (norm-of m form) 64) (ok_or (canonical-place m form) (refused Outside 0)) (refuse Outside))) form_reach
-            ∙ cond-true _ _ _ (and_from _ _ (le-leb 1 (norm-of m form) (omega (arith, form-norm, z))) (le-leb (norm-of m form) 64 (omega (arith, form-norm))))
+            ap (λ (r : Result (Unit {0}) Refusal). then r (cond (leb 1 (norm_of m form) && leb (norm_of m form) 64) (ok_or (canonical_place m form) (refused Outside 0)) (refuse Outside))) form_reach
+            ∙ cond-true _ _ _ (and_from _ _ (le-leb 1 (norm_of m form) (omega (arith, form-norm, z))) (le-leb (norm_of m form) 64 (omega (arith, form-norm))))
             ∙ ap (λ (o : Option ℕ). ok_or o (refused Outside 0)) place_is.1
 
-        pub number_passes : (f : Refusal) → Err f ≡ canonical-number-answer m form → ⊥
+        pub number_passes : (f : Refusal) → Err f ≡ canonical_number_answer m form → ⊥
         number_passes f h = no_fault f place_is.0 (h ∙ number_is)
 
-        pub located : (sublattices lattice : ℕ) → Ok sublattices ≡ count-answer m n → Ok lattice ≡ canonical-number-answer m form → Located m e (Ok (record { index = n; sublattices = sublattices; lattice = lattice; form = form }))
+        pub located : (sublattices lattice : ℕ) → Ok sublattices ≡ count_answer m n → Ok lattice ≡ canonical_number_answer m form → Located m e (Ok (record { index = n; sublattices = sublattices; lattice = lattice; form = form }))
         located sublattices lattice s t =
             let q : location_check m e ≡ Ok tt = regular ∙ cond-true _ _ _ (le-leb _ _ (subst (λ (j : ℕ). j ≤ 64) norm_is l)) in
             let j : place_is.0 ≡ lattice = same_ok (sym number_is ∙ sym t) in
@@ -133,6 +133,6 @@ module _ (m : Meaning) (laws : Laws m) (e : Element) (k : Coordinates) (is : k �
               canonical = is_form.2;
               lattice =
                   subst (λ (i : ℕ). slice_get (m.euclidean.canonical i) lattice ≡ Some (value m.coordinates form)) form-norm
-                  (subst (λ (i : ℕ). slice_get (m.euclidean.canonical (norm-of m form)) i ≡ Some (value m.coordinates form)) j
+                  (subst (λ (i : ℕ). slice_get (m.euclidean.canonical (norm_of m form)) i ≡ Some (value m.coordinates form)) j
                   (nth_place (same m.coordinates) (same_true m.coordinates) (same_refl m.coordinates) (value m.coordinates form) _ place_is.0 place_is.1));
             })

@@ -9,7 +9,7 @@ use Rattle.algebra.specs.Euclidean.{Canonical}
 use Rattle.ring.specs.declared.elements.Element.{Element}
 use Rattle.ring.specs.declared.elements.Coordinates.{Coordinates}
 use Rattle.ring.specs.Elements.{Member, admits, ops, value}
-use Rattle.ring.specs.Answers.{Meets, is_zero, norm-of}
+use Rattle.ring.specs.Answers.{Meets, is_zero, norm_of}
 use Rattle.ring.specs.Meaning.{Meaning}
 use Rattle.location.specs.declared.Location.{Location}
 
@@ -22,14 +22,14 @@ module _ (m : Meaning) (e : Element) where
   singular_check = cond (is_zero m e) (refuse Singular) (Ok tt)
 
   abbrev pub index_check : Result (Unit {0}) Refusal
-  index_check = cond (nat_le (norm-of m e) 64) (Ok tt) (refuse Outside)
+  index_check = cond (nat_le (norm_of m e) 64) (Ok tt) (refuse Outside)
 
   abbrev pub location_check : Result (Unit {0}) Refusal
   location_check = then (entry_check m.coordinates e) (then singular_check index_check)
 
   -- the form is the canonical associate, and stands at its number in the list of its index
   pub record LocatedAt (l : Location) : Type 0 where
-    pub index : l.index ≡ norm-of m e
+    pub index : l.index ≡ norm_of m e
     pub sublattices : l.sublattices ≡ length (m.euclidean.canonical l.index)
     pub member : Member m.coordinates l.form
     pub associate : Associate (ops m.coordinates) (value m.coordinates e) (value m.coordinates l.form)

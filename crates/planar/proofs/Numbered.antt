@@ -8,7 +8,7 @@ use Rattle.refusal.specs.declared.Refusal.{Refusal}
 use Rattle.refusal.specs.Numbers.{refused, then}
 use Rattle.algebra.specs.Quadratic.{Quad}
 use Rattle.ring.specs.declared.elements.Element.{Element}
-use Rattle.ring.specs.Answers.{modulus-check, one-check, place, residue-element-answer, residue-number-answer, residue-place, two-check}
+use Rattle.ring.specs.Answers.{modulus_check, one_check, place, residue_element_answer, residue_number_answer, residue_place, two_check}
 use Rattle.ring.specs.Elements.{element, same}
 use Rattle.ring.proofs.Checks.{passes, passes_both}
 use Rattle.ring.proofs.Places.{both, place_none, place_nth, same_refl, same_true}
@@ -20,7 +20,7 @@ use Rattle.planar.specs.Basis.{IsBasis}
 use Rattle.planar.specs.Numbering.{number_at, number_of}
 use Rattle.planar.proofs.Bases.{nonzero}
 
-module _ (p : Plane) (m : Element) (b : Basis) (is : IsBasis p m b) (checked : modulus-check (plane p) m ≡ Ok tt) (admits : Ok tt ≡ one-check (plane p) m) where
+module _ (p : Plane) (m : Element) (b : Basis) (is : IsBasis p m b) (checked : modulus_check (plane p) m ≡ Ok tt) (admits : Ok tt ≡ one_check (plane p) m) where
   abbrev z : Quad ℤ
   z = pair m.x m.y
 
@@ -30,15 +30,15 @@ module _ (p : Plane) (m : Element) (b : Basis) (is : IsBasis p m b) (checked : m
   abbrev answer : Option (Quad ℤ) → Result Element Refusal
   answer o = ok_or (option_map (element (axes p)) o) (refused Outside 0)
 
-  element_answer : (i : ℕ) → residue-element-answer (plane p) m i ≡ answer (slice_get (residues p z) i)
+  element_answer : (i : ℕ) → residue_element_answer (plane p) m i ≡ answer (slice_get (residues p z) i)
   element_answer i =
-      passes (then (one-check (plane p) m) (modulus-check (plane p) m)) tt (answer (slice_get (residues p z) i)) (passes_both (one-check (plane p) m) (modulus-check (plane p) m) admits (sym checked))
+      passes (then (one_check (plane p) m) (modulus_check (plane p) m)) tt (answer (slice_get (residues p z) i)) (passes_both (one_check (plane p) m) (modulus_check (plane p) m) admits (sym checked))
 
-  pub element_inside : (i : ℕ) → i < b.norm → residue-element-answer (plane p) m i ≡ Ok (record { x = pos (i % b.width); y = pos (i / b.width) })
+  pub element_inside : (i : ℕ) → i < b.norm → residue_element_answer (plane p) m i ≡ Ok (record { x = pos (i % b.width); y = pos (i / b.width) })
   element_inside i h =
       element_answer i ∙ ap answer (residue_of_number p z positive i (subst (λ (n : ℕ). i < n) is.norm_is h)) ∙ ap (λ (w : ℕ). Ok (record { x = pos (i % w); y = pos (i / w) })) (sym is.width_is)
 
-  pub element_past : (i : ℕ) → b.norm ≤ i → residue-element-answer (plane p) m i ≡ Err (refused Outside 0)
+  pub element_past : (i : ℕ) → b.norm ≤ i → residue_element_answer (plane p) m i ≡ Err (refused Outside 0)
   element_past i h =
       element_answer i ∙ ap answer (none_past_norm p z positive i (subst (λ (n : ℕ). n ≤ i) is.norm_is h))
 
@@ -63,7 +63,7 @@ module _ (p : Plane) (m : Element) (b : Basis) (is : IsBasis p m b) (checked : m
   place_is (negsuc x) y =
       place_none (same (axes p)) (same_true (axes p)) (same_refl (axes p)) (pair (negsuc x) y) (residues p z) (λ j i. let s = (listed_shape p z positive j (pair (negsuc x) y) i).re in let n : ◌≡◌ {A = ℕ} 0 1 = cc in omega (arith, n))
 
-  pub number_is : (a : Element) → Ok tt ≡ one-check (plane p) a → residue-number-answer (plane p) m a ≡ ok_or (number_of b a) (refused Outside 0)
+  pub number_is : (a : Element) → Ok tt ≡ one_check (plane p) a → residue_number_answer (plane p) m a ≡ ok_or (number_of b a) (refused Outside 0)
   number_is a ok =
-      passes (then (two-check (plane p) m a) (modulus-check (plane p) m)) tt (ok_or (residue-place (plane p) m a) (refused Outside 0)) (passes_both (two-check (plane p) m a) (modulus-check (plane p) m) (sym (passes_both (one-check (plane p) m) (one-check (plane p) a) admits ok)) (sym checked))
+      passes (then (two_check (plane p) m a) (modulus_check (plane p) m)) tt (ok_or (residue_place (plane p) m a) (refused Outside 0)) (passes_both (two_check (plane p) m a) (modulus_check (plane p) m) (sym (passes_both (one_check (plane p) m) (one_check (plane p) a) admits ok)) (sym checked))
       ∙ ap (λ (o : Option ℕ). ok_or o (refused Outside 0)) (place_is a.x a.y ∙ ap₂ (λ (w g : ℕ). number_at w g a.x a.y) (sym is.width_is) (sym is.content_is))

@@ -1,7 +1,7 @@
 //! Canonical elements: the one of an element's associates, and those of a norm by number.
 ghost use Rattle.std.specs.Prelude.{◌≡◌, ◌+◌, ◌-◌, ◌*◌, ◌^◌, ◌<◌, ◌≤◌, true, length, take, pos, ◌≤ℤ◌, filter, OnOk, unsigned_abs};
 ghost use Rattle.planes.specs.Planes.{Turned, axes, canonical_of, near, pair, plane, point, sector, turn};
-ghost use Rattle.ring.specs.Answers.{modulus-check};
+ghost use Rattle.ring.specs.Answers.{modulus_check};
 ghost use Rattle.ring.specs.Elements.{Within, element, reach};
 ghost use Rattle.std.specs.Option.{option_map};
 ghost use Rattle.std.specs.List.{slice_get};
@@ -48,7 +48,7 @@ pub(super) fn to_sector(p: Plane, e: Element) -> Element
 
 /// Refuses a modulus that is 0 or not canonical.
 pub(super) fn check_modulus(p: Plane, m: Element) -> Result<(), Refusal>
-    ensures value { result ≡ modulus-check (plane p) m }
+    ensures value { result ≡ modulus_check (plane p) m }
     ensures inside { OnOk result (sector p (pair m.x m.y) ≡ true) }
 {
     if in_sector(p, m) {

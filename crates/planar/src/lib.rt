@@ -1,7 +1,7 @@
 //! The calls of the Gaussian and the Eisenstein ring, written once for both planes.
 ghost use Rattle.planar.specs.Basis.{IsBasis};
 ghost use Rattle.planes.specs.Planes.{plane};
-ghost use Rattle.ring.specs.Answers.{CanonicalAnswer, DivisionAnswer, ResidueAnswer, canonical-element-answer, canonical-number-answer, count-answer, modulus-check, norm-answer, residue-element-answer, residue-number-answer};
+ghost use Rattle.ring.specs.Answers.{CanonicalAnswer, DivisionAnswer, ResidueAnswer, canonical_element_answer, canonical_number_answer, count_answer, modulus_check, norm_answer, residue_element_answer, residue_number_answer};
 ghost use Rattle.ring.specs.Elements.{Within, reach};
 ghost use Rattle.std.specs.Prelude.{◌≡◌, Ok, Err, MatchResult};
 
@@ -22,7 +22,7 @@ use residues::{Basis, basis_of, number_in, residue_at, residue_in};
 
 /// The norm of an element.
 pub fn norm(p: Plane, a: Element) -> Result<u64, Refusal>
-    ensures { result ≡ norm-answer (plane p) a }
+    ensures { result ≡ norm_answer (plane p) a }
 {
     admit_in(p, a)?;
     Ok(norm_of(p, a))
@@ -38,7 +38,7 @@ pub fn canonical_associate(p: Plane, a: Element) -> Result<Element, Refusal>
 
 /// How many canonical elements have this norm.
 pub fn canonical_count(p: Plane, norm: u64) -> Result<u64, Refusal>
-    ensures { result ≡ count-answer (plane p) norm }
+    ensures { result ≡ count_answer (plane p) norm }
 {
     admit_norm(norm)?;
     Ok(count_before(p, norm, POINTS))
@@ -46,7 +46,7 @@ pub fn canonical_count(p: Plane, norm: u64) -> Result<u64, Refusal>
 
 /// The canonical element of this norm and number.
 pub fn canonical_element(p: Plane, norm: u64, number: u64) -> Result<Element, Refusal>
-    ensures { result ≡ canonical-element-answer (plane p) norm number }
+    ensures { result ≡ canonical_element_answer (plane p) norm number }
 {
     admit_norm(norm)?;
     find(p, norm, number).ok_or(Refusal::of(Cause::Outside))
@@ -54,7 +54,7 @@ pub fn canonical_element(p: Plane, norm: u64, number: u64) -> Result<Element, Re
 
 /// The number of a canonical element among those of its norm.
 pub fn canonical_number(p: Plane, a: Element) -> Result<u64, Refusal>
-    ensures { result ≡ canonical-number-answer (plane p) a }
+    ensures { result ≡ canonical_number_answer (plane p) a }
 {
     admit_in(p, a)?;
     let norm = norm_of(p, a);
@@ -80,7 +80,7 @@ pub fn divide(p: Plane, a: Element, b: Element) -> Result<Division, Refusal>
 /// The basis of a modulus; refuses one that is 0 or not canonical.
 fn basis_for(p: Plane, m: Element) -> Result<Basis, Refusal>
     requires { Within reach m }
-    ensures { MatchResult result (λ b. (modulus-check (plane p) m ≡ Ok tt) × IsBasis p m b) (λ e. modulus-check (plane p) m ≡ Err e) }
+    ensures { MatchResult result (λ b. (modulus_check (plane p) m ≡ Ok tt) × IsBasis p m b) (λ e. modulus_check (plane p) m ≡ Err e) }
 {
     check_modulus(p, m)?;
     Ok(basis_of(p, m, norm_of(p, m)))
@@ -98,7 +98,7 @@ pub fn residue(p: Plane, a: Element, m: Element) -> Result<Element, Refusal>
 
 /// The residue modulo `m` of this number.
 pub fn residue_element(p: Plane, m: Element, number: u64) -> Result<Element, Refusal>
-    ensures { result ≡ residue-element-answer (plane p) m number }
+    ensures { result ≡ residue_element_answer (plane p) m number }
 {
     admit_in(p, m)?;
     let basis = basis_for(p, m)?;
@@ -110,7 +110,7 @@ pub fn residue_element(p: Plane, m: Element, number: u64) -> Result<Element, Ref
 
 /// The number of the residue `a` modulo `m`.
 pub fn residue_number(p: Plane, m: Element, a: Element) -> Result<u64, Refusal>
-    ensures { result ≡ residue-number-answer (plane p) m a }
+    ensures { result ≡ residue_number_answer (plane p) m a }
 {
     admit_in(p, m)?;
     admit_in(p, a)?;

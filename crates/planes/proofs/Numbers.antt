@@ -9,7 +9,7 @@ use Rattle.refusal.specs.declared.Refusal.{Refusal}
 use Rattle.refusal.specs.Numbers.{refuse, refused, then}
 use Rattle.ring.specs.declared.elements.Element.{Element}
 use Rattle.ring.specs.Elements.{element, same}
-use Rattle.ring.specs.Answers.{canonical-element-answer, canonical-place, count-answer, norm-of, place}
+use Rattle.ring.specs.Answers.{canonical_element_answer, canonical_place, count_answer, norm_of, place}
 use Rattle.ring.proofs.Places.{place_none, place_nth, same_refl, same_true}
 use Rattle.algebra.specs.Euclidean.{Listed}
 use Rattle.algebra.specs.Quadratic.{Quad}
@@ -52,7 +52,7 @@ module _ (p : Plane) (z : Quad ℤ) (s : sector p z ≡ true) (high : norm p z �
       subst Near (sym there) (near_point (k.0 % 9) (k.0 / 9) column row)
 
 abbrev answer : Plane → Element → Result ℕ Refusal
-answer p e = cond (leb 1 (norm-of (plane p) e) && leb (norm-of (plane p) e) 64) (ok_or (canonical-place (plane p) e) (refused Outside 0)) (refuse Outside)
+answer p e = cond (leb 1 (norm_of (plane p) e) && leb (norm_of (plane p) e) 64) (ok_or (canonical_place (plane p) e) (refused Outside 0)) (refuse Outside)
 
 in_range : (n : ℕ) → 1 ≤ n → n ≤ 64 → (leb 1 n && leb n 64) ≡ true
 in_range n h k = grind arith
@@ -83,13 +83,13 @@ module _ (p : Plane) (e : Element) where
       ap₂ (λ (c : Bool) (o : Option ℕ). cond c (ok_or o (refused Outside 0)) (refuse Outside)) (in_range n low high) there
 
   pub number_large : 64 < norm p z → answer p e ≡ refuse Outside
-  number_large high = ap (λ (b : Bool). cond b (ok_or (canonical-place (plane p) e) (refused Outside 0)) (refuse Outside)) (above_range (norm p z) high)
+  number_large high = ap (λ (b : Bool). cond b (ok_or (canonical_place (plane p) e) (refused Outside 0)) (refuse Outside)) (above_range (norm p z) high)
 
   pub number_outside : sector p z ≡ false → answer p e ≡ refuse Outside
-  number_outside s = ⊎_elim zero-norm (λ low. either_way _ (canonical-place (plane p) e) (place_none (same (axes p)) (same_true (axes p)) (same_refl (axes p)) z (canonical p (norm p z)) (λ i h. absurd_at low i h))) (cases_lt (norm p z) 1)
+  number_outside s = ⊎_elim zero-norm (λ low. either_way _ (canonical_place (plane p) e) (place_none (same (axes p)) (same_true (axes p)) (same_refl (axes p)) z (canonical p (norm p z)) (λ i h. absurd_at low i h))) (cases_lt (norm p z) 1)
     where
       zero-norm : norm p z < 1 → answer p e ≡ refuse Outside
-      zero-norm l = ap (λ (b : Bool). cond b (ok_or (canonical-place (plane p) e) (refused Outside 0)) (refuse Outside)) (below_range (norm p z) l)
+      zero-norm l = ap (λ (b : Bool). cond b (ok_or (canonical_place (plane p) e) (refused Outside 0)) (refuse Outside)) (below_range (norm p z) l)
 
       absurd_at : 1 ≤ norm p z → (i : ℕ) → slice_get (canonical p (norm p z)) i ≡ Some z → ⊥
       absurd_at low i h = ⊎_elim (λ o. let n : norm p z ≡ 0 = ap (norm p) o ∙ norm_nought p in omega (arith, n, low)) (λ t. true≢false (sym t ∙ s)) (listed_sector p (norm p z) z (i, h)).1
@@ -98,12 +98,12 @@ module _ (p : Plane) (n : ℕ) (low : 1 ≤ n) (high : n ≤ 64) where
   abbrev gate : {X : Type 0} → Bool → Result X Refusal → Result X Refusal
   gate b next = then {X = Unit {0}} (cond b (Ok (tt {0})) (refuse Index)) next
 
-  pub count_inside : count-answer (plane p) n ≡ Ok (length (filter (canonical_of p n) (take 81 near)))
+  pub count_inside : count_answer (plane p) n ≡ Ok (length (filter (canonical_of p n) (take 81 near)))
   count_inside =
       ap (λ (b : Bool). gate b (Ok (length (canonical p n)))) (in_range n low high)
       ∙ ap (λ xs. Ok (length xs)) (canonical_near p n low high ∙ ap (filter (canonical_of p n)) (sym (all_points 81 (lit≤ tt))))
 
-  pub element_inside : (i : ℕ) → canonical-element-answer (plane p) n i ≡ ok_or (option_map (element (axes p)) (slice_get (filter (canonical_of p n) near) i)) (refused Outside 0)
+  pub element_inside : (i : ℕ) → canonical_element_answer (plane p) n i ≡ ok_or (option_map (element (axes p)) (slice_get (filter (canonical_of p n) near) i)) (refused Outside 0)
   element_inside i =
       ap (λ (b : Bool). gate b (ok_or (option_map (element (axes p)) (slice_get (canonical p n) i)) (refused Outside 0))) (in_range n low high)
       ∙ ap (λ xs. ok_or (option_map (element (axes p)) (slice_get xs i)) (refused Outside 0)) (canonical_near p n low high)

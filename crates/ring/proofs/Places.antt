@@ -11,7 +11,7 @@ use Rattle.ring.specs.declared.elements.Coordinates.TheVariants.{One, Two}
 use Rattle.ring.specs.declared.elements.Element.{Element}
 use Rattle.ring.specs.Elements.{Carrier, ops, element, value, same, same_whole}
 use Rattle.ring.specs.Meaning.{Meaning}
-use Rattle.ring.specs.Answers.{place, is_zero, canonical-place, modulus-check, divisor-check}
+use Rattle.ring.specs.Answers.{place, is_zero, canonical_place, modulus_check, divisor_check}
 
 pub both : (a b : Bool) → (a && b) ≡ true → (a ≡ true) × (b ≡ true)
 both true b h = (refl, h)
@@ -85,14 +85,14 @@ module _ {A : Type 0} (eq : A → A → Bool) (eq-true : (u v : A) → eq u v �
 
 -- what the checks tell
 module _ (m : Meaning) where
-  pub canonical_listed : (a : Element) → is_some (canonical-place m a) ≡ true → Canonical m.euclidean (value m.coordinates a)
-  canonical_listed a h = go (canonical-place m a) refl h
+  pub canonical_listed : (a : Element) → is_some (canonical_place m a) ≡ true → Canonical m.euclidean (value m.coordinates a)
+  canonical_listed a h = go (canonical_place m a) refl h
     where
-      go : (o : Option ℕ) → canonical-place m a ≡ o → is_some o ≡ true → Canonical m.euclidean (value m.coordinates a)
+      go : (o : Option ℕ) → canonical_place m a ≡ o → is_some o ≡ true → Canonical m.euclidean (value m.coordinates a)
       go (Some i) e t = (i, nth_place (same m.coordinates) (same_true m.coordinates) (same_refl m.coordinates) (value m.coordinates a) _ i e)
       go None e t = absurd (true≢false (sym t))
 
-  pub listed_canonical : (a : Element) → Canonical m.euclidean (value m.coordinates a) → is_some (canonical-place m a) ≡ true
+  pub listed_canonical : (a : Element) → Canonical m.euclidean (value m.coordinates a) → is_some (canonical_place m a) ≡ true
   listed_canonical a c = ap is_some (place-Listed (same m.coordinates) (same_true m.coordinates) (same_refl m.coordinates) (value m.coordinates a) _ c.0 c.1).1
 
   pub zero_same : (a : Element) → is_zero m a ≡ true → value m.coordinates a ≡ (ops m.coordinates).zero
@@ -101,10 +101,10 @@ module _ (m : Meaning) where
   pub same-zero : (a : Element) → value m.coordinates a ≡ (ops m.coordinates).zero → is_zero m a ≡ true
   same-zero a h = subst (λ (v : Carrier m.coordinates). same m.coordinates (value m.coordinates a) v ≡ true) h (same_refl m.coordinates (value m.coordinates a))
 
-  pub checked_modulus : (c : Element) (u : Unit {0}) → modulus-check m c ≡ Ok u → Modulus (ops m.coordinates) m.euclidean (value m.coordinates c)
-  checked_modulus c u h = go (is_zero m c) refl (is_some (canonical-place m c)) refl h
+  pub checked_modulus : (c : Element) (u : Unit {0}) → modulus_check m c ≡ Ok u → Modulus (ops m.coordinates) m.euclidean (value m.coordinates c)
+  checked_modulus c u h = go (is_zero m c) refl (is_some (canonical_place m c)) refl h
     where
-      go : (z : Bool) → is_zero m c ≡ z → (s : Bool) → is_some (canonical-place m c) ≡ s → cond (not z && s) (Ok tt) (refuse NoModulus) ≡ Ok u → Modulus (ops m.coordinates) m.euclidean (value m.coordinates c)
+      go : (z : Bool) → is_zero m c ≡ z → (s : Bool) → is_some (canonical_place m c) ≡ s → cond (not z && s) (Ok tt) (refuse NoModulus) ≡ Ok u → Modulus (ops m.coordinates) m.euclidean (value m.coordinates c)
       go true e s f t = absurd (let z : ◌≡◌ {A = ℕ} 0 1 = cc in omega arith)
       go false e false f t = absurd (let z : ◌≡◌ {A = ℕ} 0 1 = cc in omega arith)
       go false e true f t = record { canonical = canonical_listed c f; not_zero = λ p. true≢false (sym (same-zero c p) ∙ e) }

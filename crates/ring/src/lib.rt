@@ -1,6 +1,6 @@
 //! One trait for every ring: its exact arithmetic, what else it has, and the laws that code above it may use.
 ghost use Rattle.std.specs.Prelude.{◌≡◌};
-ghost use Rattle.ring.specs.Answers.{sum-answer, product-answer, norm-answer, unit-answer, CanonicalAnswer, DivisionAnswer, ResidueAnswer, count-answer, canonical-element-answer, canonical-number-answer, residue-element-answer, residue-number-answer};
+ghost use Rattle.ring.specs.Answers.{sum_answer, product_answer, norm_answer, unit_answer, CanonicalAnswer, DivisionAnswer, ResidueAnswer, count_answer, canonical_element_answer, canonical_number_answer, residue_element_answer, residue_number_answer};
 ghost use Rattle.ring.specs.Meaning.{Meaning, Laws};
 
 use refusal::Refusal;
@@ -24,7 +24,7 @@ pub trait Ring {
         ensures { result ≡ meaning.coordinates };
 
     fn sum(&self, a: Element, b: Element) -> Result<Element, Refusal>
-        ensures { result ≡ sum-answer meaning a b }
+        ensures { result ≡ sum_answer meaning a b }
     {
         let k = self.coordinates();
         admit(k, a)?;
@@ -33,7 +33,7 @@ pub trait Ring {
     }
 
     fn product(&self, a: Element, b: Element) -> Result<Element, Refusal>
-        ensures { result ≡ product-answer meaning a b }
+        ensures { result ≡ product_answer meaning a b }
     {
         let k = self.coordinates();
         admit(k, a)?;
@@ -42,11 +42,11 @@ pub trait Ring {
     }
 
     fn norm(&self, a: Element) -> Result<u64, Refusal>
-        ensures { result ≡ norm-answer meaning a };
+        ensures { result ≡ norm_answer meaning a };
 
     /// Whether some element multiplies `a` to 1.
     fn is_unit(&self, a: Element) -> Result<bool, Refusal>
-        ensures { result ≡ unit-answer meaning a }
+        ensures { result ≡ unit_answer meaning a }
     {
         Ok(self.norm(a)? == 1)
     }
@@ -65,23 +65,23 @@ pub trait Ring {
 
     /// How many canonical elements have this norm; `Index` if it is not 1 to 64.
     fn canonical_count(&self, norm: u64) -> Result<u64, Refusal>
-        ensures { result ≡ count-answer meaning norm };
+        ensures { result ≡ count_answer meaning norm };
 
     /// The canonical element of a norm and number; `Index`, then `Outside` past the end of the list.
     fn canonical_element(&self, norm: u64, number: u64) -> Result<Element, Refusal>
-        ensures { result ≡ canonical-element-answer meaning norm number };
+        ensures { result ≡ canonical_element_answer meaning norm number };
 
     /// The number of `a` among the canonical elements of its norm; `Outside` if it is in no such list up to norm 64.
     fn canonical_number(&self, a: Element) -> Result<u64, Refusal>
-        ensures { result ≡ canonical-number-answer meaning a };
+        ensures { result ≡ canonical_number_answer meaning a };
 
     /// The residue modulo `m` of this number; `Modulus`, then `Outside` past the end of the list.
     fn residue_element(&self, m: Element, number: u64) -> Result<Element, Refusal>
-        ensures { result ≡ residue-element-answer meaning m number };
+        ensures { result ≡ residue_element_answer meaning m number };
 
     /// The number of the residue `a` modulo `m`; `Modulus`, then `Outside` if `a` is no residue.
     fn residue_number(&self, m: Element, a: Element) -> Result<u64, Refusal>
-        ensures { result ≡ residue-number-answer meaning m a };
+        ensures { result ≡ residue_number_answer meaning m a };
 
     ghost laws: { Laws meaning };
 }

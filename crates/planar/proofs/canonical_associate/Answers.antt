@@ -1,5 +1,5 @@
 use Rattle.std.proofs.Common.{sym, refl}
-use Rattle.ring.specs.Answers.{one-check}
+use Rattle.ring.specs.Answers.{one_check}
 use Rattle.ring.proofs.Checks.{meets}
 use Rattle.planes.specs.Planes.{pair, plane}
 use Rattle.planes.proofs.Canonical.{placed_canonical}
@@ -7,5 +7,5 @@ use Rattle.planar.proofs.canonical_associate.Goals as goal
 
 pub returns : goal.returns
 returns c =
-    meets (one-check (plane c.args.p) c.args.a) _ c.to-sector.result (sym c.in-ok-admit-in.ensures.value)
+    meets (one_check (plane c.args.p) c.args.a) _ c.to-sector.result (sym c.in-ok-admit-in.ensures.value)
     (refl, c.to-sector.ensures.associate, placed_canonical c.args.p (pair c.to-sector.result.x c.to-sector.result.y) c.to-sector.ensures.placed)

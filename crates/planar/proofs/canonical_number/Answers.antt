@@ -1,5 +1,5 @@
 use Rattle.std.proofs.Common.{◌≡◌, ℕ, ◌<◌, ◌≤◌, true, false, length, take, Ok, Err, filter, sym, ap, ◌∙◌, subst, ⊎_elim, arith}
-use Rattle.ring.specs.Answers.{canonical-number-answer, one-check}
+use Rattle.ring.specs.Answers.{canonical_number_answer, one_check}
 use Rattle.ring.proofs.Checks.{passes}
 use Rattle.planes.specs.Planes.{canonical_of, near, norm, pair, plane, sector}
 use Rattle.planes.proofs.Numbers.{number_inside, number_large, number_outside, sector_near}
@@ -9,7 +9,7 @@ pub returns-then-not-in-sector : goal.returns-then-not-in-sector
 returns-then-not-in-sector c =
     let p = c.args.p in
     let a = c.args.a in
-    let ok = passes (one-check (plane p) a) _ _ (sym c.in-ok-admit-in.ensures.value) in
+    let ok = passes (one_check (plane p) a) _ _ (sym c.in-ok-admit-in.ensures.value) in
     ap Err c.of.ensures ∙ sym (ok ∙ ⊎_elim (λ f. number_outside p a (sym c.in-sector.ensures ∙ f)) (λ g. number_large p a (subst (λ (n : ℕ). 64 < n) c.norm-of-norm.ensures.value g.1)) c.then-not-in-sector.either)
 
 pub index-of-requires : goal.index-of-requires
@@ -32,5 +32,5 @@ returns c =
     let a = c.args.a in
     let s = sym c.if-not-in-sector.ensures in
     let b = subst (λ (n : ℕ). n ≤ 64) c.norm-of-norm.ensures.value c.if-norm-gt64.false in
-    let ok = passes (one-check (plane p) a) _ _ (sym c.in-ok-admit-in.ensures.value) in
+    let ok = passes (one_check (plane p) a) _ _ (sym c.in-ok-admit-in.ensures.value) in
     ap Ok (c.count-before.ensures ∙ ap (λ (n : ℕ). length (filter (canonical_of p n) (take c.index-of.result near))) c.norm-of-norm.ensures.value ∙ ap (λ (i : ℕ). length (filter (canonical_of p (norm p (pair a.x a.y))) (take i near))) c.index-of.ensures) ∙ sym (ok ∙ number_inside p a s b)

@@ -1,6 +1,6 @@
 use Rattle.std.proofs.Common.{sym, refl}
 use Rattle.refusal.specs.Numbers.{then}
-use Rattle.ring.specs.Answers.{modulus-check, one-check, two-check}
+use Rattle.ring.specs.Answers.{modulus_check, one_check, two_check}
 use Rattle.ring.proofs.Checks.{meets, passes_both}
 use Rattle.planes.specs.Planes.{plane}
 use Rattle.planar.proofs.Bases.{congruent, listed}
@@ -13,6 +13,6 @@ returns c =
     let m = c.args.m in
     let b = c.in-ok-basis.ensures in
     let r = c.residue-in.ensures in
-    let two = passes_both (one-check (plane p) a) (one-check (plane p) m) c.in-ok-admit-in.ensures.value c.in-ok-admit-in-2.ensures.value in
-    meets (then (two-check (plane p) a m) (modulus-check (plane p) m)) _ c.residue-in.result (passes_both (two-check (plane p) a m) (modulus-check (plane p) m) (sym two) (sym b.0))
+    let two = passes_both (one_check (plane p) a) (one_check (plane p) m) c.in-ok-admit-in.ensures.value c.in-ok-admit-in-2.ensures.value in
+    meets (then (two_check (plane p) a m) (modulus_check (plane p) m)) _ c.residue-in.result (passes_both (two_check (plane p) a m) (modulus_check (plane p) m) (sym two) (sym b.0))
     (refl, listed p m c.in-ok-basis.basis b.1 a c.residue-in.result r.x r.y, congruent p m c.in-ok-basis.basis b.1 a c.residue-in.result r.x r.y)
