@@ -45,6 +45,6 @@ module _ {A : Type 0} {o : Ops A} (R : CommRing o) (a b : A) where
   pub quadratic : QuadraticRing o a b
   quadratic = record {
     laws = quad_ring;
-    norm-form-mul = λ p q. solve R (env p q q) (form (T.mul x y)) (times (form x) (form y)) refl;
+    norm_form-mul = λ p q. solve R (env p q q) (form (T.mul x y)) (times (form x) (form y)) refl;
     mul-conjugate = λ p. both (env p p p) (T.mul x (conjugate terms (var 0) (var 1) x)) (record { re = form x; im = nil }) refl refl;
   }

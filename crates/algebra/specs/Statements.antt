@@ -9,7 +9,7 @@ use Rattle.algebra.specs.Quadratic.{Quad, quad_ops, conjugate, norm_form}
 pub record QuadraticRing {A : Type 0} (o : Ops A) (a b : A) : Type 0 where
   pub laws : CommRing (quad_ops o a b)
   -- the norm form of a product is the product of the norm forms
-  pub norm-form-mul : (p q : Quad A) → norm_form o a b ((quad_ops o a b).mul p q) ≡ o.mul (norm_form o a b p) (norm_form o a b q)
+  pub norm_form-mul : (p q : Quad A) → norm_form o a b ((quad_ops o a b).mul p q) ≡ o.mul (norm_form o a b p) (norm_form o a b q)
   pub mul-conjugate : (p : Quad A) → (quad_ops o a b).mul p (conjugate o a b p) ≡ record { re = norm_form o a b p; im = o.zero }
 
 abbrev pub QuadraticRings : Type 0 → Type 0

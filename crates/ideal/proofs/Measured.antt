@@ -8,7 +8,7 @@ use Rattle.ring.specs.declared.elements.Element.{Element}
 use Rattle.ring.specs.Elements.{value}
 use Rattle.ring.specs.Meaning.{Laws, Meaning}
 use Rattle.ring.specs.Answers.{divisor_check, is_zero, norm_of}
-use Rattle.ring.proofs.Places.{same-zero, zero_same}
+use Rattle.ring.proofs.Places.{same_zero, zero_same}
 use Rattle.ideal.specs.Answers.{size_check}
 use Rattle.ideal.proofs.Gates.{gate}
 
@@ -27,7 +27,7 @@ module _ (m : Meaning) (l : Laws m) (y : Element) where
   not_nought h = elim (cases_Bool (is_zero m y)) [ inl e ↦ absurd (h (ap m.euclidean.norm (zero_same m y e) ∙ l.euclidean.norm-zero)) | inr e ↦ ap (λ (t : Bool). cond t (refuse NoModulus) (Ok tt)) e ]
 
   pub nought : norm_of m y ≡ 0 → divisor_check m y ≡ Err (refused NoModulus 0)
-  nought h = ap (λ (t : Bool). cond t (refuse NoModulus) (Ok tt)) (same-zero m y (l.euclidean.zero_from_norm (value m.coordinates y) h))
+  nought h = ap (λ (t : Bool). cond t (refuse NoModulus) (Ok tt)) (same_zero m y (l.euclidean.zero_from_norm (value m.coordinates y) h))
 
   pub large : 2 ^ 29 < norm_of m y → size_check m y ≡ Err (refused Coordinate 0)
   large h = ap (λ (t : Bool). cond t (Ok tt) (refuse Coordinate)) (lt-leb (norm_of m y) (2 ^ 29) h)

@@ -6,8 +6,8 @@ use Rattle.lattice.specs.Vectors.{Vec, combine}
 use Rattle.lattice.specs.Determinants.{det}
 
 module _ {A : Type 0} {o : Ops A} (R : CommRing o) where
-  pub det-one : (a : Vec A 1) (p : Vec A 1) → det o 1 (combine o 1 (p.0 ∷ []) (a ∷ []) ∷ []) ≡ o.mul (det o 1 (p ∷ [])) (det o 1 (a ∷ []))
-  det-one a p = ring R (a.0 ∷ p.0 ∷ []) (λ k. search quote depth 20 fits 5000) (λ k. search quote depth 20 fits 5000) refl
+  pub det_one : (a : Vec A 1) (p : Vec A 1) → det o 1 (combine o 1 (p.0 ∷ []) (a ∷ []) ∷ []) ≡ o.mul (det o 1 (p ∷ [])) (det o 1 (a ∷ []))
+  det_one a p = ring R (a.0 ∷ p.0 ∷ []) (λ k. search quote depth 20 fits 5000) (λ k. search quote depth 20 fits 5000) refl
 
   pub det_two : (a b : Vec A 2) (p q : Vec A 2) → det o 2 (combine o 2 (p.0 ∷ p.1.0 ∷ []) (a ∷ b ∷ []) ∷ combine o 2 (q.0 ∷ q.1.0 ∷ []) (a ∷ b ∷ []) ∷ []) ≡ o.mul (det o 2 (p ∷ q ∷ [])) (det o 2 (a ∷ b ∷ []))
   det_two a b p q = ring R (a.0 ∷ a.1.0 ∷ b.0 ∷ b.1.0 ∷ p.0 ∷ p.1.0 ∷ q.0 ∷ q.1.0 ∷ []) (λ k. search quote depth 40 fits 20000) (λ k. search quote depth 40 fits 20000) refl

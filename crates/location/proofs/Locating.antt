@@ -15,7 +15,7 @@ use Rattle.ring.specs.declared.elements.Coordinates.TheVariants.{One, Two}
 use Rattle.ring.specs.Elements.{Member, Within, admits, admitted, element, norm_check, ops, reach, same, value}
 use Rattle.ring.specs.Answers.{CanonicalAnswer, Meets, canonical_number_answer, canonical_place, count_answer, is_zero, norm_answer, norm_of, one_check}
 use Rattle.ring.specs.Meaning.{Laws, Meaning}
-use Rattle.ring.proofs.Places.{nth_place, place-Listed, same_refl, same_true, same-zero, zero_same}
+use Rattle.ring.proofs.Places.{nth_place, place-Listed, same_refl, same_true, same_zero, zero_same}
 use Rattle.location.specs.Located.{LocatedAt, Located, entry_check, index_check, location_check, singular_check}
 
 no_fault : {X E : Type 0} (e : E) (x : X) → Err e ≡ Ok x → ⊥
@@ -74,7 +74,7 @@ module _ (m : Meaning) (laws : Laws m) (e : Element) (k : Coordinates) (is : k �
     -- only 0 has norm 0
     pub singular : (f : Refusal) → n ≡ 0 → f ≡ refused Singular 0 → Located m e (Err f)
     singular f z q =
-        let w = same-zero m e (laws.euclidean.zero_from_norm (value m.coordinates e) (sym norm_is ∙ z)) in
+        let w = same_zero m e (laws.euclidean.zero_from_norm (value m.coordinates e) (sym norm_is ∙ z)) in
         refuses f Singular q (after_entry ∙ ap (λ (b : Bool). then (cond b (refuse Singular) (Ok tt)) (index_check m e)) w)
 
     module _ (z : n ≡ 0 → ⊥) where
@@ -96,8 +96,8 @@ module _ (m : Meaning) (laws : Laws m) (e : Element) (k : Coordinates) (is : k �
         is_form = subst (λ (r : Result (Unit {0}) Refusal). Meets r (Ok form) (λ c. Member m.coordinates c × Associate (ops m.coordinates) (value m.coordinates e) (value m.coordinates c) × Canonical m.euclidean (value m.coordinates c))) entry_reach answer
 
         -- associates have one norm
-        form-norm : norm_of m form ≡ n
-        form-norm =
+        form_norm : norm_of m form ≡ n
+        form_norm =
             let a = is_form.1 in
             ap m.euclidean.norm a.2
             ∙ laws.euclidean.norm-mul a.0 (value m.coordinates e)
@@ -106,7 +106,7 @@ module _ (m : Meaning) (laws : Laws m) (e : Element) (k : Coordinates) (is : k �
             ∙ sym norm_is
 
         form_reach : admitted m.coordinates form ≡ Ok tt
-        form_reach = cond-true _ _ _ (admits_small m.coordinates form (2 * norm_of m form) (omega (arith, form-norm)) is_form.0 (laws.norm_bounds (value m.coordinates form)))
+        form_reach = cond-true _ _ _ (admits_small m.coordinates form (2 * norm_of m form) (omega (arith, form_norm)) is_form.0 (laws.norm_bounds (value m.coordinates form)))
 
         place_is : (i : ℕ) × (canonical_place m form ≡ Some i)
         place_is = place-Listed (same m.coordinates) (same_true m.coordinates) (same_refl m.coordinates) (value m.coordinates form) _ is_form.2.0 is_form.2.1
@@ -114,7 +114,7 @@ module _ (m : Meaning) (laws : Laws m) (e : Element) (k : Coordinates) (is : k �
         number_is : canonical_number_answer m form ≡ Ok place_is.0
         number_is =
             ap (λ (r : Result (Unit {0}) Refusal). then r (cond (leb 1 (norm_of m form) && leb (norm_of m form) 64) (ok_or (canonical_place m form) (refused Outside 0)) (refuse Outside))) form_reach
-            ∙ cond-true _ _ _ (and_from _ _ (le-leb 1 (norm_of m form) (omega (arith, form-norm, z))) (le-leb (norm_of m form) 64 (omega (arith, form-norm))))
+            ∙ cond-true _ _ _ (and_from _ _ (le-leb 1 (norm_of m form) (omega (arith, form_norm, z))) (le-leb (norm_of m form) 64 (omega (arith, form_norm))))
             ∙ ap (λ (o : Option ℕ). ok_or o (refused Outside 0)) place_is.1
 
         pub number_passes : (f : Refusal) → Err f ≡ canonical_number_answer m form → ⊥
@@ -132,7 +132,7 @@ module _ (m : Meaning) (laws : Laws m) (e : Element) (k : Coordinates) (is : k �
               associate = is_form.1;
               canonical = is_form.2;
               lattice =
-                  subst (λ (i : ℕ). slice_get (m.euclidean.canonical i) lattice ≡ Some (value m.coordinates form)) form-norm
+                  subst (λ (i : ℕ). slice_get (m.euclidean.canonical i) lattice ≡ Some (value m.coordinates form)) form_norm
                   (subst (λ (i : ℕ). slice_get (m.euclidean.canonical (norm_of m form)) i ≡ Some (value m.coordinates form)) j
                   (nth_place (same m.coordinates) (same_true m.coordinates) (same_refl m.coordinates) (value m.coordinates form) _ place_is.0 place_is.1));
             })

@@ -5,7 +5,7 @@ use Rattle.refusal.specs.declared.Refusal.{Refusal}
 use Rattle.refusal.specs.Numbers.{refuse}
 use Rattle.ring.specs.declared.elements.Element.{Element}
 use Rattle.ring.specs.Answers.{canonical_place, divisor_check, is_zero, modulus_check}
-use Rattle.ring.proofs.Places.{canonical_listed, listed_canonical, same-zero, zero_same}
+use Rattle.ring.proofs.Places.{canonical_listed, listed_canonical, same_zero, zero_same}
 use Rattle.std.proofs.lemmas.Bool.{cases_Bool}
 use Rattle.planes.specs.declared.Plane.{Plane}
 use Rattle.planes.specs.declared.Plane.TheVariants.{Square, Hexagonal}
@@ -28,7 +28,7 @@ module _ (p : Plane) (e : Element) where
       go : (z : Bool) → is_zero (plane p) e ≡ z → (c : Bool) → is_some (canonical_place (plane p) e) ≡ c → (not z && c) ≡ false
       go true f c h = refl
       go false f false h = refl
-      go false f true h = absurd (⊎_elim (λ n. true≢false (sym (same-zero (plane p) e n) ∙ f)) (λ i. true≢false (sym i ∙ s)) (listed_sector p (norm p (pair e.x e.y)) (pair e.x e.y) (canonical_listed (plane p) e h)).1)
+      go false f true h = absurd (⊎_elim (λ n. true≢false (sym (same_zero (plane p) e n) ∙ f)) (λ i. true≢false (sym i ∙ s)) (listed_sector p (norm p (pair e.x e.y)) (pair e.x e.y) (canonical_listed (plane p) e h)).1)
 
   pub modulus_inside : sector p (pair e.x e.y) ≡ true → modulus_check (plane p) e ≡ Ok tt
   modulus_inside s =
@@ -39,7 +39,7 @@ module _ (p : Plane) (e : Element) where
 
   -- a divisor is 0 exactly if its norm is
   pub divisor_none : norm p (pair e.x e.y) ≡ 0 → divisor_check (plane p) e ≡ refuse Modulus
-  divisor_none n = ap (λ (z : Bool). cond z (refuse Modulus) (Ok tt)) (same-zero (plane p) e (zero_from_norm p (pair e.x e.y) n))
+  divisor_none n = ap (λ (z : Bool). cond z (refuse Modulus) (Ok tt)) (same_zero (plane p) e (zero_from_norm p (pair e.x e.y) n))
 
   pub divisor_some : 0 < norm p (pair e.x e.y) → divisor_check (plane p) e ≡ Ok tt
   divisor_some n = ap (λ (z : Bool). cond z (refuse Modulus) (Ok tt)) (⊎_elim (λ z. absurd (let h : norm p (pair e.x e.y) ≡ 0 = ap (norm p) (zero_same (plane p) e z) ∙ norm_nought p in omega (arith, h, n))) (λ f. f) (cases_Bool (is_zero (plane p) e)))

@@ -86,7 +86,7 @@ module _ (p : Plane) (z : Quad ℤ) where
   zero_from_norm h = λ i. pair (zero_from_unsigned_abs z.re (omega (arith, re_bound, h)) i) (zero_from_unsigned_abs z.im (omega (arith, im_bound p z, h)) i)
 
 pub norm-mul : (p : Plane) (z w : Quad ℤ) → norm p ((quad_ops ℤ_ops (negsuc 0) (trace p)).mul z w) ≡ norm p z * norm p w
-norm-mul p z w = ap nat_abs ((quadratic ℤ_ring (negsuc 0) (trace p)).norm-form-mul z w) ∙ nat_abs_mul (form p z) (form p w)
+norm-mul p z w = ap nat_abs ((quadratic ℤ_ring (negsuc 0) (trace p)).norm_form-mul z w) ∙ nat_abs_mul (form p z) (form p w)
 
 -- z times its conjugate is its norm
 pub mul-conjugate_is_norm : (p : Plane) (z : Quad ℤ) → (quad_ops ℤ_ops (negsuc 0) (trace p)).mul z (conjugate ℤ_ops (negsuc 0) (trace p) z) ≡ pair (pos (norm p z)) (pos 0)

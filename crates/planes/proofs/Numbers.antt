@@ -86,10 +86,10 @@ module _ (p : Plane) (e : Element) where
   number_large high = ap (λ (b : Bool). cond b (ok_or (canonical_place (plane p) e) (refused Outside 0)) (refuse Outside)) (above_range (norm p z) high)
 
   pub number_outside : sector p z ≡ false → answer p e ≡ refuse Outside
-  number_outside s = ⊎_elim zero-norm (λ low. either_way _ (canonical_place (plane p) e) (place_none (same (axes p)) (same_true (axes p)) (same_refl (axes p)) z (canonical p (norm p z)) (λ i h. absurd_at low i h))) (cases_lt (norm p z) 1)
+  number_outside s = ⊎_elim zero_norm (λ low. either_way _ (canonical_place (plane p) e) (place_none (same (axes p)) (same_true (axes p)) (same_refl (axes p)) z (canonical p (norm p z)) (λ i h. absurd_at low i h))) (cases_lt (norm p z) 1)
     where
-      zero-norm : norm p z < 1 → answer p e ≡ refuse Outside
-      zero-norm l = ap (λ (b : Bool). cond b (ok_or (canonical_place (plane p) e) (refused Outside 0)) (refuse Outside)) (below_range (norm p z) l)
+      zero_norm : norm p z < 1 → answer p e ≡ refuse Outside
+      zero_norm l = ap (λ (b : Bool). cond b (ok_or (canonical_place (plane p) e) (refused Outside 0)) (refuse Outside)) (below_range (norm p z) l)
 
       absurd_at : 1 ≤ norm p z → (i : ℕ) → slice_get (canonical p (norm p z)) i ≡ Some z → ⊥
       absurd_at low i h = ⊎_elim (λ o. let n : norm p z ≡ 0 = ap (norm p) o ∙ norm_nought p in omega (arith, n, low)) (λ t. true≢false (sym t ∙ s)) (listed_sector p (norm p z) z (i, h)).1

@@ -98,8 +98,8 @@ module _ (m : Meaning) where
   pub zero_same : (a : Element) → is_zero m a ≡ true → value m.coordinates a ≡ (ops m.coordinates).zero
   zero_same a h = same_true m.coordinates _ _ h
 
-  pub same-zero : (a : Element) → value m.coordinates a ≡ (ops m.coordinates).zero → is_zero m a ≡ true
-  same-zero a h = subst (λ (v : Carrier m.coordinates). same m.coordinates (value m.coordinates a) v ≡ true) h (same_refl m.coordinates (value m.coordinates a))
+  pub same_zero : (a : Element) → value m.coordinates a ≡ (ops m.coordinates).zero → is_zero m a ≡ true
+  same_zero a h = subst (λ (v : Carrier m.coordinates). same m.coordinates (value m.coordinates a) v ≡ true) h (same_refl m.coordinates (value m.coordinates a))
 
   pub checked_modulus : (c : Element) (u : Unit {0}) → modulus_check m c ≡ Ok u → Modulus (ops m.coordinates) m.euclidean (value m.coordinates c)
   checked_modulus c u h = go (is_zero m c) refl (is_some (canonical_place m c)) refl h
@@ -107,4 +107,4 @@ module _ (m : Meaning) where
       go : (z : Bool) → is_zero m c ≡ z → (s : Bool) → is_some (canonical_place m c) ≡ s → cond (not z && s) (Ok tt) (refuse NoModulus) ≡ Ok u → Modulus (ops m.coordinates) m.euclidean (value m.coordinates c)
       go true e s f t = absurd (let z : ◌≡◌ {A = ℕ} 0 1 = cc in omega arith)
       go false e false f t = absurd (let z : ◌≡◌ {A = ℕ} 0 1 = cc in omega arith)
-      go false e true f t = record { canonical = canonical_listed c f; not_zero = λ p. true≢false (sym (same-zero c p) ∙ e) }
+      go false e true f t = record { canonical = canonical_listed c f; not_zero = λ p. true≢false (sym (same_zero c p) ∙ e) }
