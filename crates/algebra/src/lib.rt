@@ -1,6 +1,8 @@
 //! Commutative rings, the solver for their identities, the integers, the quadratic rings, and rings with a norm.
 //!
 //! This crate holds theorems: each function stands for the one that its contract names.
+#![tactic(auto)]
+
 ghost use Rattle.algebra.specs.Statements.{GcdIsGreatest, IntegersAreARing, QuadraticRings};
 
 /// The integers are a commutative ring.

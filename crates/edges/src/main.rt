@@ -1,4 +1,6 @@
 //! Prints what the three rings answer at the edges of their calls.
+#![tactic(auto)]
+
 use eisenstein::Eisenstein;
 use gaussian::Gaussian;
 use integers::Integers;

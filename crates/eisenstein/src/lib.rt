@@ -1,4 +1,6 @@
 //! The Eisenstein integers as a ring, for hexagonal layers.
+#![tactic(auto)]
+
 ghost use Rattle.eisenstein.specs.Eisenstein.{eisenstein_integers};
 ghost use Rattle.planes.specs.declared.Plane.TheVariants.{Hexagonal};
 ghost use Rattle.planes.proofs.Laws;

@@ -1,4 +1,6 @@
 //! Where a supercell matrix is filed: a text in, the lattice's place or a refusal out.
+#![tactic(auto)]
+
 ghost use Rattle.filing.specs.Filed.{FiledAnswer, Placed};
 ghost use Rattle.filing.specs.Report.{report};
 ghost use Rattle.std.specs.Prelude.{◌≡◌, Some};

@@ -1,4 +1,6 @@
 //! The Gaussian integers as a ring, for square layers.
+#![tactic(auto)]
+
 ghost use Rattle.gaussian.specs.Gaussian.{gaussian_integers};
 ghost use Rattle.planes.specs.declared.Plane.TheVariants.{Square};
 ghost use Rattle.planes.proofs.Laws;

@@ -1,4 +1,6 @@
 //! Ideals and congruences, over every ring.
+#![tactic(auto)]
+
 ghost use Rattle.ring.specs.Elements.{ops};
 ghost use Rattle.ideal.specs.Answers.{CongruenceAnswer, GeneratorAnswer};
 ghost use Rattle.ideal.specs.Ideal.{OneGenerator};

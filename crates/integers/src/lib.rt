@@ -1,4 +1,6 @@
 //! The integers as a ring.
+#![tactic(auto)]
+
 ghost use Rattle.std.specs.Prelude.{◌≡◌, pos, ◌≤ℤ◌, ◌<ℤ◌, IfOk, OnOk};
 ghost use Rattle.ring.specs.Answers.{DivisionAnswer, modulus_check};
 ghost use Rattle.integers.specs.Integers.{integers};

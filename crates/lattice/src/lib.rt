@@ -1,6 +1,8 @@
 //! Sublattices as sets of vectors, and their Hermite forms, over every ring that keeps the laws and in every rank.
 //!
 //! This crate holds theorems: each function stands for the one that its contract names.
+#![tactic(auto)]
+
 ghost use Rattle.lattice.specs.Statements.{DeterminantsFill, FormsAreUnique, FormsExist, IndexIsNorm, SitesAreCounted, VectorsReduce};
 
 /// Every sublattice of full rank that columns generate has a Hermite form.

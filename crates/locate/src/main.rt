@@ -1,4 +1,6 @@
 //! Tells where a supercell matrix is filed: its text on standard input, the lattice's place on standard output.
+#![tactic(auto)]
+
 use anyhow::anyhow;
 use filing::{Answer, file};
 use std::io::Read;

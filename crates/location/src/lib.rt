@@ -1,4 +1,6 @@
 //! Where a lattice of rank 1 stands among those of its index.
+#![tactic(auto)]
+
 ghost use Rattle.location.specs.Located.{Located, entry_check};
 ghost use Rattle.std.specs.Prelude.{◌≡◌};
 

@@ -1,4 +1,6 @@
 //! The calls of the Gaussian and the Eisenstein ring, written once for both planes.
+#![tactic(auto)]
+
 ghost use Rattle.planar.specs.Basis.{IsBasis};
 ghost use Rattle.planes.specs.Planes.{plane};
 ghost use Rattle.ring.specs.Answers.{CanonicalAnswer, DivisionAnswer, ResidueAnswer, canonical_element_answer, canonical_number_answer, count_answer, modulus_check, norm_answer, residue_element_answer, residue_number_answer};

@@ -2,6 +2,8 @@
 //!
 //! Both are pairs x + yθ with θ² = −1 + tθ, so one theory serves the two: t is 0 for the square plane, where θ is the
 //! imaginary unit, and −1 for the hexagonal plane, where θ is a third root of one.
+#![tactic(auto)]
+
 ghost use Rattle.planes.specs.Planes.{axes, plane};
 ghost use Rattle.ring.specs.Meaning.{Laws};
 ghost use Rattle.std.specs.Prelude.{◌≡◌};

@@ -1,4 +1,6 @@
 //! Every refusal of the catalogue: one closed list of causes, each with its number, and a place.
+#![tactic(auto)]
+
 ghost use Rattle.std.specs.Prelude.{◌≡◌, Some};
 ghost use Rattle.refusal.specs.Numbers.{number, refused};
 ghost use Rattle.refusal.specs.Report.{report};

@@ -1,4 +1,6 @@
 //! One trait for every ring: its exact arithmetic, what else it has, and the laws that code above it may use.
+#![tactic(auto)]
+
 ghost use Rattle.std.specs.Prelude.{◌≡◌};
 ghost use Rattle.ring.specs.Answers.{sum_answer, product_answer, norm_answer, unit_answer, CanonicalAnswer, DivisionAnswer, ResidueAnswer, count_answer, canonical_element_answer, canonical_number_answer, residue_element_answer, residue_number_answer};
 ghost use Rattle.ring.specs.Meaning.{Meaning, Laws};

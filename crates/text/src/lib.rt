@@ -1,4 +1,6 @@
 //! Texts of lines `key=value`: their numbers, coordinates and elements, and the request that a program reads.
+#![tactic(auto)]
+
 ghost use Rattle.text.specs.Lines.{read_answer};
 ghost use Rattle.text.specs.Written.{ReadingInvertsWriting};
 ghost use Rattle.std.specs.Prelude.{◌≡◌};

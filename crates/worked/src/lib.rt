@@ -1,4 +1,6 @@
 //! The worked cases of the documents, each derived from the definitions.
+#![tactic(auto)]
+
 ghost use Rattle.worked.specs.Cases.{WorkedCases};
 
 /// Every worked case follows from the definitions.

@@ -6,10 +6,10 @@ use Rattle.filing.specs.Filed.{FiledAnswer}
 use Rattle.filing.proofs.Reading.{filed, not_filed}
 use Rattle.filing.proofs.file.Goals as goal
 
-pub returns-in-err-location : goal.returns-in-err-location
-returns-in-err-location c =
-    let p = err_from_is_err_and c.from-residual-in-err-location.result c.from-residual-in-err-location.ensures.1 in
-    subst (λ (r : Result Answer Refusal). FiledAnswer c.args.request.now r) (sym (p.1 ∙ ap Err p.2)) (not_filed c.args.request.now c.in-ok-read.read c.in-ok-read.ensures c.if-read-ne1.false c.in-err-location.field-0.0 c.in-err-location.ensures)
+pub returns-in_err-location : goal.returns-in_err-location
+returns-in_err-location c =
+    let p = err_from_is_err_and c.from_residual-in_err-location.result c.from_residual-in_err-location.ensures.1 in
+    subst (λ (r : Result Answer Refusal). FiledAnswer c.args.request.now r) (sym (p.1 ∙ ap Err p.2)) (not_filed c.args.request.now c.in_ok-read.read c.in_ok-read.ensures c.if-read-ne1.false c.in_err-location.field-0.0 c.in_err-location.ensures)
 
 pub returns : goal.returns
-returns c = filed c.args.request.now c.in-ok-read.read c.in-ok-read.ensures c.if-read-ne1.false c.in-ok-location.location c.in-ok-location.ensures
+returns c = filed c.args.request.now c.in_ok-read.read c.in_ok-read.ensures c.if-read-ne1.false c.in_ok-location.location c.in_ok-location.ensures

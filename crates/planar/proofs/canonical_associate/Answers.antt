@@ -7,5 +7,5 @@ use Rattle.planar.proofs.canonical_associate.Goals as goal
 
 pub returns : goal.returns
 returns c =
-    meets (one_check (plane c.args.p) c.args.a) _ c.to-sector.result (sym c.in-ok-admit-in.ensures.value)
-    (refl, c.to-sector.ensures.associate, placed_canonical c.args.p (pair c.to-sector.result.x c.to-sector.result.y) c.to-sector.ensures.placed)
+    meets (one_check (plane c.args.p) c.args.a) _ c.to_sector.result (sym c.in_ok-admit_in.ensures.value)
+    (refl, c.to_sector.ensures.associate, placed_canonical c.args.p (pair c.to_sector.result.x c.to_sector.result.y) c.to_sector.ensures.placed)

@@ -12,8 +12,8 @@ returns-then-norm-eq0 c =
     let m = plane c.args.p in
     let a = c.args.a in
     let b = c.args.b in
-    let two = passes_both (one_check m a) (one_check m b) c.in-ok-admit-in.ensures.value c.in-ok-admit-in-2.ensures.value in
-    let zero = divisor_none c.args.p b (sym c.norm-of-norm.ensures.value ∙ c.if-norm-eq0.true) in
+    let two = passes_both (one_check m a) (one_check m b) c.in_ok-admit_in.ensures.value c.in_ok-admit_in-2.ensures.value in
+    let zero = divisor_none c.args.p b (sym c.norm_of-norm.ensures.value ∙ c.if-norm-eq0.true) in
     subst (λ (f : Refusal). DivisionAnswer m a b (Err f)) (sym c.of.ensures) (refuses (then (two_check m a b) (divisor_check m b)) _ _ (passes (two_check m a b) tt (divisor_check m b) two ∙ zero))
 
 pub returns : goal.returns
@@ -21,7 +21,7 @@ returns c =
     let m = plane c.args.p in
     let a = c.args.a in
     let b = c.args.b in
-    let two = passes_both (one_check m a) (one_check m b) c.in-ok-admit-in.ensures.value c.in-ok-admit-in-2.ensures.value in
-    let some : 0 < c.norm-of-norm.result = omega (arith, c.if-norm-eq0.false) in
-    let divisor = divisor_some c.args.p b (subst (λ (n : ℕ). 0 < n) c.norm-of-norm.ensures.value some) in
+    let two = passes_both (one_check m a) (one_check m b) c.in_ok-admit_in.ensures.value c.in_ok-admit_in-2.ensures.value in
+    let some : 0 < c.norm_of-norm.result = omega (arith, c.if-norm-eq0.false) in
+    let divisor = divisor_some c.args.p b (subst (λ (n : ℕ). 0 < n) c.norm_of-norm.ensures.value some) in
     meets (then (two_check m a b) (divisor_check m b)) _ c.rounded.result (passes (two_check m a b) tt (divisor_check m b) two ∙ divisor) (c.rounded.ensures.quotient_member, c.rounded.ensures.remainder_member, c.rounded.ensures.law)

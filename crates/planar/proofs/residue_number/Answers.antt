@@ -5,5 +5,5 @@ use Rattle.planar.proofs.residue_number.Goals as goal
 
 pub returns : goal.returns
 returns c =
-    let b = c.in-ok-basis.ensures in
-    c.ok-or.ensures.value ∙ ap₂ ok_or c.number-in.ensures c.of.ensures ∙ sym (number_is c.args.p c.args.m c.in-ok-basis.basis b.1 b.0 c.in-ok-admit-in.ensures.value c.args.a c.in-ok-admit-in-2.ensures.value)
+    let b = c.in_ok-basis.ensures in
+    c.ok_or.ensures.value ∙ ap₂ ok_or c.number_in.ensures c.of.ensures ∙ sym (number_is c.args.p c.args.m c.in_ok-basis.basis b.1 b.0 c.in_ok-admit_in.ensures.value c.args.a c.in_ok-admit_in-2.ensures.value)

@@ -6,13 +6,13 @@ use Rattle.text.proofs.read.Goals as goal
 pub loop-init : goal.loop-init
 loop-init c = start _ _ _ _ c.new-reader.ensures.line c.new-reader.ensures.state c.new-reader.ensures.rest
 
-pub returns-in-err-step : goal.returns-in-err-step
-returns-in-err-step c =
-    let p = err_from_is_err_and c.from-residual.result c.from-residual.ensures.1 in
-    rw (p.1, p.2) (within c.args.text.now _ c.if-text-gt-LIMIT.false (fault _ _ _ _ _ c.loop.invariant _ c.loop-test.true c.in-err-step.ensures.answer))
+pub returns-in_err-step : goal.returns-in_err-step
+returns-in_err-step c =
+    let p = err_from_is_err_and c.from_residual.result c.from_residual.ensures.1 in
+    rw (p.1, p.2) (within c.args.text.now _ c.if-text-gt-LIMIT.false (fault _ _ _ _ _ c.loop.invariant _ c.loop-test.true c.in_err-step.ensures.answer))
 
 pub loop-preserved : goal.loop-preserved
-loop-preserved c = more _ _ _ _ _ c.loop.invariant _ _ _ c.loop-test.true c.in-ok-step.ensures.answer c.in-ok-step.ensures.line
+loop-preserved c = more _ _ _ _ _ c.loop.invariant _ _ _ c.loop-test.true c.in_ok-step.ensures.answer c.in_ok-step.ensures.line
 
 pub returns : goal.returns
 returns c = within c.args.text.now _ c.if-text-gt-LIMIT.false (c.finish.ensures ∙ done _ _ _ _ _ c.loop.invariant c.loop-test.false)

@@ -6,8 +6,8 @@ use Rattle.planar.proofs.canonical.to_sector.Goals as goal
 pub loop-k-init : goal.loop-k-init
 loop-k-init c = (refl, c.requires.x_bound, c.requires.y_bound, λ k h. absurd (omega (arith, h)))
 
-pub turn-of-turned-requires : goal.turn-of-turned-requires
-turn-of-turned-requires c =
+pub turn_of-turned-requires : goal.turn_of-turned-requires
+turn_of-turned-requires c =
     let b = low c.loop-k.-k (omega arith) in
     (omega (arith, b, c.loop-k.invariant.1), omega (arith, b, c.loop-k.invariant.2))
 
@@ -15,15 +15,15 @@ pub loop-k-preserved : goal.loop-k-preserved
 loop-k-preserved c =
     let k = c.loop-k.-k in
     let d = doubled k in (
-      turns_more c.args.p k (pair c.args.e.x c.args.e.y) _ _ c.loop-k.invariant.0 c.turn-of-turned.ensures.value,
-      omega (arith, d, c.loop-k.invariant.1, c.loop-k.invariant.2, c.turn-of-turned.ensures.x_bound),
-      omega (arith, d, c.loop-k.invariant.1, c.turn-of-turned.ensures.y_bound),
-      below_more _ _ c.loop-k.invariant.3 (ap (sector c.args.p) (sym c.loop-k.invariant.0) ∙ sym c.in-sector.ensures ∙ c.if-in-sector.false),
+      turns_more c.args.p k (pair c.args.e.x c.args.e.y) _ _ c.loop-k.invariant.0 c.turn_of-turned.ensures.value,
+      omega (arith, d, c.loop-k.invariant.1, c.loop-k.invariant.2, c.turn_of-turned.ensures.x_bound),
+      omega (arith, d, c.loop-k.invariant.1, c.turn_of-turned.ensures.y_bound),
+      below_more _ _ c.loop-k.invariant.3 (ap (sector c.args.p) (sym c.loop-k.invariant.0) ∙ sym c.in_sector.ensures ∙ c.if-in_sector.false),
     )
 
-pub returns-then-in-sector : goal.returns-then-in-sector
-returns-then-in-sector c =
-    turned_now c.args.p c.loop-k.-k (pair c.args.e.x c.args.e.y) _ c.loop-k.invariant.0 (sym c.in-sector.ensures ∙ c.if-in-sector.true)
+pub returns-then-in_sector : goal.returns-then-in_sector
+returns-then-in_sector c =
+    turned_now c.args.p c.loop-k.-k (pair c.args.e.x c.args.e.y) _ c.loop-k.invariant.0 (sym c.in_sector.ensures ∙ c.if-in_sector.true)
 
 pub returns : goal.returns
 returns c =

@@ -3,8 +3,8 @@ use Rattle.planar.proofs.Bases.{basis, content_some}
 use Rattle.planar.proofs.Rows.{last_content}
 use Rattle.planar.proofs.residues.basis_of.Goals as goal
 
-pub nonzero-div-result : goal.nonzero-div-result
-nonzero-div-result c =
+pub nonzero_div-result : goal.nonzero_div-result
+nonzero_div-result c =
     let e = last_content c.args.p c.args.m c.loop-next.row.x c.loop-next.row.y c.loop-next.next.x c.loop-next.next.y c.loop-next.invariant c.loop-next-test.false in
     content_some c.args.p c.args.m c.args.norm c.loop-next.row.y c.requires.1.0 c.requires.1.1.0 e
 

@@ -13,4 +13,4 @@ returns-in-Two c =
     let mild : Mild (Two c.in-Two.s c.in-Two.t) = subst Mild c.in-Two.is c.requires.0 in
     let s = back c.in-Two.s (omega arith) in
     let t = back c.in-Two.t (omega arith) in
-    product_at c.args.k c.args.a c.args.b _ (c.in-Two.is ∙ ap₂ Two (sym s) (sym t)) _ c.product-two.ensures
+    product_at c.args.k c.args.a c.args.b _ (c.in-Two.is ∙ ap₂ Two (sym s) (sym t)) _ c.product_two.ensures

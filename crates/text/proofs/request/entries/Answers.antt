@@ -6,21 +6,21 @@ use Rattle.text.proofs.request.entries.Goals as goal
 pub loop-i-init : goal.loop-i-init
 loop-i-init c = begun c.args.k c.args.count c.args.bytes.now
 
-pub returns-in-default : goal.returns-in-default
-returns-in-default c =
-    let f : Filled c.args.k c.args.count c.args.bytes.now c.loop-i.i c.loop-i.entries None = rw c.in-default.is at c.loop-i.invariant in
+pub returns-in_default : goal.returns-in_default
+returns-in_default c =
+    let f : Filled c.args.k c.args.count c.args.bytes.now c.loop-i.i c.loop-i.entries None = rw c.in_default.is at c.loop-i.invariant in
     missing _ _ _ _ _ c.loop-i-test.true f
 
-pub returns-in-err-entries : goal.returns-in-err-entries
-returns-in-err-entries c =
-    let p = err_from_is_err_and c.from-residual.result c.from-residual.ensures.1 in
+pub returns-in_err-entries : goal.returns-in_err-entries
+returns-in_err-entries c =
+    let p = err_from_is_err_and c.from_residual.result c.from_residual.ensures.1 in
     let f : Filled c.args.k c.args.count c.args.bytes.now c.loop-i.i c.loop-i.entries (Some c.in-Some.part.now) = rw c.in-Some.is at c.loop-i.invariant in
-    rw (p.1, p.2) (faulty _ _ _ _ _ _ _ _ c.loop-i-test.true c.cut.ensures.before c.in-err-entries.ensures f)
+    rw (p.1, p.2) (faulty _ _ _ _ _ _ _ _ c.loop-i-test.true c.cut.ensures.before c.in_err-entries.ensures f)
 
 pub loop-i-preserved : goal.loop-i-preserved
 loop-i-preserved c =
     let f : Filled c.args.k c.args.count c.args.bytes.now c.loop-i.i c.loop-i.entries (Some c.in-Some.part.now) = rw c.in-Some.is at c.loop-i.invariant in
-    one_more _ _ _ _ _ _ _ _ _ c.loop-i-test.true c.requires c.cut.ensures.before c.in-ok-entries.ensures c.cut.ensures.after f
+    one_more _ _ _ _ _ _ _ _ _ c.loop-i-test.true c.requires c.cut.ensures.before c.in_ok-entries.ensures c.cut.ensures.after f
 
 pub returns-in-None : goal.returns-in-None
 returns-in-None c =
