@@ -11,4 +11,4 @@ abbrev pub residues : ℤ → List ℤ
 residues m = map pos (range_with_len 0 (unsigned_abs m))
 
 abbrev pub integers : Meaning
-integers = record { coordinates = One; euclidean = record { norm = nat_abs; canonical = canonical; residues = residues } }
+integers = record { coordinates = One; euclidean = record { norm = unsigned_abs; canonical = canonical; residues = residues } }
