@@ -1,7 +1,7 @@
 //! Division by rounding to the nearest element.
 ghost use Rattle.std.specs.Prelude.{◌≡◌, ◌*◌, ◌^◌, ◌<◌, ◌≤◌, ◌-ℤ◌, unsigned_abs};
 ghost use Rattle.planar.specs.Division.{Divided};
-ghost use Rattle.planes.specs.Planes.{Nearest, left_over, norm as norm-in, over, pair, plane};
+ghost use Rattle.planes.specs.Planes.{Nearest, left_over, norm as norm_in, over, pair, plane};
 ghost use Rattle.ring.specs.Elements.{Within, reach};
 
 use super::whole::{minus, narrow, plus, times, wide_minus, wide_plus, wide_times};
@@ -80,7 +80,7 @@ fn less(a: Element, x: i128, y: i128) -> Element
 /// The nearest quotient, and the remainder that it leaves.
 pub(super) fn rounded(p: Plane, a: Element, b: Element, norm: u64) -> Division
     requires within { (Within reach a) × (Within reach b) }
-    requires norm_value { (norm ≡ norm-in p (pair b.x b.y)) × ((0 < norm) × (norm ≤ 3 * 2 ^ 60)) }
+    requires norm_value { (norm ≡ norm_in p (pair b.x b.y)) × ((0 < norm) × (norm ≤ 3 * 2 ^ 60)) }
     ensures { Divided (plane p) a b result }
 {
     let quotient = both_nearest(over_of(p, a, b), norm);

@@ -2,7 +2,7 @@
 ghost use Rattle.std.specs.Prelude.{◌≡◌, ◌*◌, ◌/◌, ◌%◌, ◌^◌, ◌<◌, ◌≤◌, true, pos, ◌-ℤ◌, ◌*ℤ◌, unsigned_abs};
 ghost use Rattle.planar.specs.Basis.{IsBasis, Rows};
 ghost use Rattle.planar.specs.Numbering.{number_of};
-ghost use Rattle.planes.specs.Planes.{content, norm as norm-in, pair, sector};
+ghost use Rattle.planes.specs.Planes.{content, norm as norm_in, pair, sector};
 ghost use Rattle.ring.specs.Elements.{Within, reach};
 ghost use Rattle.std.specs.Int.{int_div_euclid, int_rem_euclid};
 
@@ -65,8 +65,8 @@ fn first_rows(p: Plane, m: Element) -> (Row, Row)
 
 /// What is left of a row without as many of the next as its second coordinate holds.
 fn last_row(p: Plane, m: Element, row: Row, next: Row, norm: u64) -> Row
-    requires rows_2 { (Rows p m row.x row.y next.x next.y) × (0 < next.y) }
-    requires norm_value { (norm ≡ norm-in p (pair m.x m.y)) × ((0 < norm) × (norm ≤ 3 * 2 ^ 60)) }
+    requires rows_known { (Rows p m row.x row.y next.x next.y) × (0 < next.y) }
+    requires norm_value { (norm ≡ norm_in p (pair m.x m.y)) × ((0 < norm) × (norm ≤ 3 * 2 ^ 60)) }
     ensures rows { Rows p m next.x next.y result.x result.y }
     ensures smaller { result.y < next.y }
 {
@@ -80,7 +80,7 @@ fn last_row(p: Plane, m: Element, row: Row, next: Row, norm: u64) -> Row
 /// A basis of the multiples of a canonical modulus, by Euclid's algorithm on their second coordinates.
 pub(super) fn basis_of(p: Plane, m: Element, norm: u64) -> Basis
     requires within { (Within reach m) × (sector p (pair m.x m.y) ≡ true) }
-    requires norm_value { (norm ≡ norm-in p (pair m.x m.y)) × ((0 < norm) × (norm ≤ 3 * 2 ^ 60)) }
+    requires norm_value { (norm ≡ norm_in p (pair m.x m.y)) × ((0 < norm) × (norm ≤ 3 * 2 ^ 60)) }
     ensures { IsBasis p m result }
 {
     let (mut row, mut next) = first_rows(p, m);

@@ -5,7 +5,7 @@ use Rattle.ring.specs.Elements.{element}
 use Rattle.planes.specs.Planes.{axes, canonical_of, near}
 use Rattle.planes.proofs.Points.{count_hit, count_miss, found_at, none_past}
 use Rattle.planar.proofs.canonical.find.Goals as goal
-use Rattle.planar.proofs.canonical.find.Goals.{then-is-canonical-of+else-seen-number, else-is_canonical_of}
+use Rattle.planar.proofs.canonical.find.Goals.{then-is_canonical_of+else-seen-number, else-is_canonical_of}
 
 pub returns-then-seen-number : goal.returns-then-seen-number
 returns-then-seen-number c =
@@ -20,7 +20,7 @@ loop-i-preserved c =
     let test = canonical_of c.args.p c.args.norm in
     let same = ap test (sym c.point_of-e.ensures.value) in
     elim c.if-is_canonical_of.branch [
-      | then-is-canonical-of+else-seen-number w ↦ let h = count_hit test c.loop-i.i c.loop-i-test.true (same ∙ sym w.if-is_canonical_of.ensures) in (omega (arith, h, w.seen-is, c.loop-i.invariant.0), omega (arith, w.seen-is, c.loop-i.invariant.1), omega (arith, w.seen-is, w.if-seen-number.false, c.loop-i.invariant.2))
+      | then-is_canonical_of+else-seen-number w ↦ let h = count_hit test c.loop-i.i c.loop-i-test.true (same ∙ sym w.if-is_canonical_of.ensures) in (omega (arith, h, w.seen-is, c.loop-i.invariant.0), omega (arith, w.seen-is, c.loop-i.invariant.1), omega (arith, w.seen-is, w.if-seen-number.false, c.loop-i.invariant.2))
       | else-is_canonical_of w ↦ let h = count_miss test c.loop-i.i c.loop-i-test.true (same ∙ sym w.if-is_canonical_of.ensures) in (omega (arith, h, w.seen-is, c.loop-i.invariant.0), omega (arith, w.seen-is, c.loop-i.invariant.1), omega (arith, w.seen-is, c.loop-i.invariant.2))
     ]
 

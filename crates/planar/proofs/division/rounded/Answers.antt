@@ -9,13 +9,13 @@ left_over_of-remainder-requires c =
     let b = pair c.args.b.x c.args.b.y in
     let q = pair c.both_nearest-quotient.result.x c.both_nearest-quotient.result.y in
     let z = pair c.over_of.result.x c.over_of.result.y in
-    let size = c.requires.1.0 in
-    let some = c.requires.1.1.0 in
-    let few = c.requires.1.1.1 in
-    let n = c.both_nearest-quotient.ensures in (
-      (c.requires.0.0, (c.requires.0.1, n.bound)),
-      (left_re c.args.p a b q z c.args.norm size some few c.over_of.ensures.value n.x n.y, left_im c.args.p a b q z c.args.norm size some few c.over_of.ensures.value n.x n.y),
-    )
+    let size = c.requires.norm_value.0 in
+    let some = c.requires.norm_value.1.0 in
+    let few = c.requires.norm_value.1.1 in
+    let n = c.both_nearest-quotient.ensures in record {
+      within = (c.requires.within.0, (c.requires.within.1, n.bound));
+      y_bound = (left_re c.args.p a b q z c.args.norm size some few c.over_of.ensures.value n.x n.y, left_im c.args.p a b q z c.args.norm size some few c.over_of.ensures.value n.x n.y);
+    }
 
 pub returns : goal.returns
 returns c =
@@ -27,5 +27,5 @@ returns c =
     record {
       quotient_member = refl;
       remainder_member = refl;
-      law = keeps_law c.args.p a b q z c.args.norm c.requires.1.0 c.requires.1.1.0 c.requires.1.1.1 c.over_of.ensures.value n.x n.y _ c.left_over_of-remainder.ensures;
+      law = keeps_law c.args.p a b q z c.args.norm c.requires.norm_value.0 c.requires.norm_value.1.0 c.requires.norm_value.1.1 c.over_of.ensures.value n.x n.y _ c.left_over_of-remainder.ensures;
     }

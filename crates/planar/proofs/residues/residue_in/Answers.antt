@@ -19,7 +19,7 @@ returns c =
     let few : nat_abs q ≤ nat_abs a.y = subst (λ (s : ℤ). nat_abs s ≤ nat_abs a.y) (sym e) (quotient_bound a.y n) in
     let bx = back a.x (omega arith) in
     let bq = back q (omega arith) in
-    let bs = back c.args.b.step c.requires.0.1 in
+    let bs = back c.args.b.step c.requires.within.1 in
     let low : nat_abs c.reduced.result < c.args.b.width = c.reduced.ensures.bound in
     let v : c.reduced.result ≡ int_rem_euclid (a.x -ℤ int_div_euclid a.y (pos n) *ℤ c.args.b.step) (pos c.args.b.width) = rw (bx, bq, bs, e) at c.reduced.ensures.value in
     record { x = back c.reduced.result (omega arith) ∙ v; y = back r (omega arith) ∙ f }
