@@ -1,5 +1,7 @@
 -- What `congruent` answers, by what the ring's calls answered.
-use Rattle.std.proofs.Common.{◌≡◌, Bool, true, false, cond, ℤ, Ok, Err, Decides, sym, refl, ap, ◌∙◌, ap₂, true≢false}
+use Rattle.std.proofs.Common.{◌≡◌, Bool, ◌&&◌, ℤ, Ok, Err, Decides, sym, ap, ◌∙◌, ap₂}
+use Rattle.std.specs.Ordering.{int_eq}
+use Rattle.std.proofs.lemmas.Bool.Decides.{Decides-and, Decides-int_eq}
 use Rattle.refusal.specs.declared.Refusal.{Refusal}
 use Rattle.refusal.specs.Numbers.{then}
 use Rattle.ring.specs.declared.elements.Coordinates.{Coordinates}
@@ -15,12 +17,10 @@ use Rattle.ideal.proofs.Gates.{not_both, passed, passed_last, passed_other, refu
 use Rattle.ideal.proofs.Residues.{residues_same, same_residue}
 
 -- `==` on elements
-abbrev pub Told : Bool → Element → Element → Type 0
-Told r s t = cond r (Decides true (s.x ≡ t.x) × Decides true (s.y ≡ t.y)) ((Decides false (s.x ≡ t.x) → ⊥) → (Decides false (s.y ≡ t.y) → ⊥) → ⊥)
-
-told : (r : Bool) (s t : Element) → Told r s t → Decides r (s ≡ t)
-told true s t h = (λ e. ap₂ (λ (u v : ℤ). record { x = u; y = v }) (h.0.0 refl) (h.1.0 refl), λ e. refl)
-told false s t h = (λ e. absurd (true≢false (sym e)), λ e. absurd (h (λ d. true≢false (sym (d.1 (ap (λ (z : Element). z.x) e)))) (λ d. true≢false (sym (d.1 (ap (λ (z : Element). z.y) e))))))
+told : (r : Bool) (s t : Element) → r ≡ (int_eq s.x t.x && int_eq s.y t.y) → Decides r (s ≡ t)
+told r s t h =
+    let d = Decides-and _ _ (Decides-int_eq s.x t.x) (Decides-int_eq s.y t.y) in
+    (λ e. let p = d.0 (sym h ∙ e) in ap₂ (λ (u v : ℤ). record { x = u; y = v }) p.0 p.1, λ e. h ∙ d.1 (ap (λ (z : Element). z.x) e, ap (λ (z : Element). z.y) e))
 
 -- k is what the ring says its coordinates are
 module _ (m : Meaning) (k : Coordinates) (is : k ≡ m.coordinates) (a b c : Element) where
@@ -41,7 +41,7 @@ module _ (m : Meaning) (k : Coordinates) (is : k ≡ m.coordinates) (a b c : Ele
       reduced_too x h =
           not_both (passed_other (admits m.coordinates reach a) (admits m.coordinates reach b) (admits m.coordinates reach c) (modulus_check m c) (sym (o ∙ at_meaning)) (met_passes _ _ s p)) (met_refuses _ _ x h)
 
-      pub compared : Laws m → (t : Element) → ResidueAnswer m b c (Ok t) → (r : Bool) → Told r s t → CongruenceAnswer m a b c (Ok r)
+      pub compared : Laws m → (t : Element) → ResidueAnswer m b c (Ok t) → (r : Bool) → r ≡ (int_eq s.x t.x && int_eq s.y t.y) → CongruenceAnswer m a b c (Ok r)
       compared l t q r h =
           let j = m.coordinates in
           let pass = met_passes (then (two_check m a c) (modulus_check m c)) _ s p in

@@ -13,17 +13,17 @@ returns-in_err-size g c =
     let p = err_from_is_err_and c.from_residual-in_err-size.result c.from_residual-in_err-size.ensures.1 in
     rw (p.1, p.2) (refused_divisor g.R.Ring.meaning g.met.R.Ring.laws _ c.coordinates.ensures c.args.a c.args.b c.in_ok-admit.ensures.value _ c.in_err-size.ensures)
 
-pub returns-then-size-gt-NORM-LIMIT : goal.returns-then-size-gt-NORM-LIMIT
-returns-then-size-gt-NORM-LIMIT g c =
-    rw c.of.ensures (refused_size g.R.Ring.meaning g.met.R.Ring.laws _ c.coordinates.ensures c.args.a c.args.b c.in_ok-admit.ensures.value _ c.in_ok-size.ensures c.if-size-gt-NORM-LIMIT.true)
+pub returns-then-size-gt-NORM_LIMIT : goal.returns-then-size-gt-NORM_LIMIT
+returns-then-size-gt-NORM_LIMIT g c =
+    rw c.of.ensures (refused_size g.R.Ring.meaning g.met.R.Ring.laws _ c.coordinates.ensures c.args.a c.args.b c.in_ok-admit.ensures.value _ c.in_ok-size.ensures c.if-size-gt-NORM_LIMIT.true)
 
 pub returns-then-size-eq0 : goal.returns-then-size-eq0
 returns-then-size-eq0 g c =
-    rw c.of-then-size-eq0.ensures (refused_zero g.R.Ring.meaning g.met.R.Ring.laws _ c.coordinates.ensures c.args.a c.args.b c.in_ok-admit.ensures.value _ c.in_ok-size.ensures c.if-size-gt-NORM-LIMIT.false c.if-size-eq0.true)
+    rw c.of-then-size-eq0.ensures (refused_zero g.R.Ring.meaning g.met.R.Ring.laws _ c.coordinates.ensures c.args.a c.args.b c.in_ok-admit.ensures.value _ c.in_ok-size.ensures c.if-size-gt-NORM_LIMIT.false c.if-size-eq0.true)
 
 pub loop-remainder-init : goal.loop-remainder-init
 loop-remainder-init g c =
-    first_turn g.R.Ring.meaning g.met.R.Ring.laws _ c.coordinates.ensures c.args.a c.args.b c.in_ok-admit.ensures.value _ c.in_ok-size.ensures c.if-size-gt-NORM-LIMIT.false c.if-size-eq0.false
+    first_turn g.R.Ring.meaning g.met.R.Ring.laws _ c.coordinates.ensures c.args.a c.args.b c.in_ok-admit.ensures.value _ c.in_ok-size.ensures c.if-size-gt-NORM_LIMIT.false c.if-size-eq0.false
 
 pub returns-in_err-remainder : goal.returns-in_err-remainder
 returns-in_err-remainder g c =

@@ -27,7 +27,7 @@ returns-in-None c =
     let f : Filled c.args.k c.args.count c.args.bytes.now c.loop-i.i c.loop-i.entries None = rw c.in-None.is at c.loop-i.invariant in
     whole _ _ _ _ _ c.loop-i-test.false (omega arith) f
 
-pub returns-in-Some-default : goal.returns-in-Some-default
-returns-in-Some-default c =
-    let f : Filled c.args.k c.args.count c.args.bytes.now c.loop-i.i c.loop-i.entries (Some c.in-Some-default.field-0.now) = rw c.in-Some-default.is at c.loop-i.invariant in
+pub returns-in-Some-rest : goal.returns-in-Some-rest
+returns-in-Some-rest c =
+    let f : Filled c.args.k c.args.count c.args.bytes.now c.loop-i.i c.loop-i.entries (Some c.in-Some-rest.field-0.now) = rw c.in-Some-rest.is at c.loop-i.invariant in
     surplus _ _ _ _ _ _ c.loop-i-test.false f
