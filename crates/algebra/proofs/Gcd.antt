@@ -1,7 +1,6 @@
 -- Euclid's algorithm on natural numbers: the last divisor divides both, and is a sum of multiples of both.
-use Rattle.std.proofs.Common.{◌≡◌, ℕ, zero, suc, ◌+◌, ◌*◌, ◌/◌, ◌%◌, ◌<◌, ◌≤◌, [], ◌∷◌, ℤ, pos, ◌+ℤ◌, ◌-ℤ◌, ◌*ℤ◌, neg_ℤ, nat_abs, sym, refl, ap, ◌∙◌, subst, ap₂, mod-lt, mul-zero, zero-mul, arith}
+use Rattle.std.proofs.Common.{◌≡◌, ℕ, zero, suc, ◌+◌, ◌*◌, ◌/◌, ◌%◌, ◌<◌, ◌≤◌, [], ◌∷◌, ℤ, pos, ◌+ℤ◌, ◌-ℤ◌, ◌*ℤ◌, nat_abs, sym, refl, ap, ◌∙◌, subst, ap₂, mod-lt, mul-zero, zero-mul, arith}
 use Rattle.algebra.specs.Divisors.{gcd, gcd_within}
-use Rattle.algebra.specs.Integers.{ℤ_ops}
 use Rattle.algebra.specs.Statements.{IsGcd}
 use Rattle.algebra.proofs.Integers.{ℤ_ring}
 use Rattle.algebra.proofs.Quote.{ring, quoteℤ}

@@ -1,5 +1,5 @@
 -- The whole numbers in a commutative ring: `embed` keeps sums, negatives and products.
-use Rattle.std.proofs.Common.{◌≡◌, ℕ, zero, suc, ◌+◌, ◌-◌, ◌*◌, ◌<◌, ◌≤◌, Bool, true, false, cond, not, T, ltb, ℤ, pos, negsuc, ◌+ℤ◌, ◌*ℤ◌, neg_ℤ, sym, refl, ap, ◌∙◌, subst, ap₂, suc-mul as ℕ-suc-mul, suc-add as ℕ-suc-add, zero-add as ℕ-zero-add, zero-mul as ℕ-zero-mul, arith, ltb→lt, nltb→le}
+use Rattle.std.proofs.Common.{◌≡◌, ℕ, zero, suc, ◌+◌, ◌-◌, ◌*◌, ◌<◌, ◌≤◌, Bool, true, false, cond, not, T, ltb, ℤ, pos, negsuc, ◌+ℤ◌, ◌*ℤ◌, neg_ℤ, sym, refl, ap, ◌∙◌, subst, ap₂, suc-add as ℕ-suc-add, zero-add as ℕ-zero-add, zero-mul as ℕ-zero-mul, arith, ltb→lt, nltb→le}
 use lib.IntN.{sub_ℕ}
 use Rattle.algebra.specs.Ring.{Ops, CommRing}
 use Rattle.algebra.proofs.CommRing as Laws

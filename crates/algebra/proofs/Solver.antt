@@ -1,11 +1,10 @@
 -- A decision procedure for equations that hold in every commutative ring.
 use Rattle.std.proofs.Common.{◌≡◌, ℕ, zero, suc, T, List, [], ◌∷◌, ℤ, pos, negsuc, ◌+ℤ◌, ◌*ℤ◌, sym, refl, ap, ◌∙◌, subst, ap₂, eqb→eq}
-use mathlib.Core.Path.{◌≡⟨◌⟩◌, ◌∎}
 use Prim.Native.Nat.{compare, Ordering}
 use lib.Dec.{compare_is_eq}
 use Rattle.algebra.specs.Ring.{Ops, CommRing}
 use Rattle.algebra.proofs.CommRing as Laws
-use Rattle.algebra.proofs.Numeral.{nat, embed, embed-add, embed-mul}
+use Rattle.algebra.proofs.Numeral.{embed, embed-add, embed-mul}
 
 -- ---- terms
 pub data Expr : Type 0 where

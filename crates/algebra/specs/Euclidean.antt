@@ -2,7 +2,7 @@
 use Rattle.std.specs.Prelude.{◌≡◌, ℕ, ◌*◌, ◌<◌, ◌≤◌, ◌⊎◌, List, length, Some, ◌≢◌}
 use Rattle.std.specs.List.{slice_get}
 use Rattle.algebra.specs.Ring.{Ops}
-use Rattle.algebra.specs.Divisors.{Divides, Congruent, Invertible, Associate}
+use Rattle.algebra.specs.Divisors.{Congruent, Invertible, Associate}
 
 -- x stands somewhere in the list
 abbrev pub Listed : {A : Type 0} → List A → A → Type 0

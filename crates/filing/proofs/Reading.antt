@@ -1,11 +1,8 @@
 -- What a request of rank 1 comes to.
-use Rattle.std.proofs.Common.{◌≡◌, ℕ, Bool, true, false, eqb, List, Ok, Err, Result, sym, refl, ap, ◌∙◌, subst, arith}
+use Rattle.std.proofs.Common.{◌≡◌, ℕ, Bool, true, eqb, List, Ok, Err, Result, sym, refl, subst, arith}
 use Rattle.refusal.specs.declared.Refusal.{Refusal}
-use Rattle.ring.specs.declared.elements.Element.{Element}
-use Rattle.ring.specs.Answers.{Meets}
 use Rattle.ring.proofs.Checks.{meets, met, met_passes, met_refuses, refuses}
 use Rattle.text.specs.declared.request.Request.{Request}
-use Rattle.text.specs.declared.request.RingName.{RingName}
 use Rattle.text.specs.Lines.{read_answer}
 use Rattle.location.specs.declared.Location.{Location}
 use Rattle.location.specs.Located.{LocatedAt, location_check}

@@ -6,7 +6,6 @@ use Rattle.std.specs.List.{slice_get}
 use Rattle.std.proofs.lemmas.List.FromFn.{length-map-range_with_len}
 use Rattle.algebra.specs.Integers.{ℤ_ops}
 use Rattle.algebra.specs.Euclidean.{EuclideanLaws, Canonical, Listed, Modulus}
-use Rattle.ring.specs.Elements.{element}
 use Rattle.ring.specs.Meaning.{Laws}
 use Rattle.algebra.proofs.Whole.{nat_abs_mul}
 use Rattle.integers.specs.Integers.{canonical, integers, residues}

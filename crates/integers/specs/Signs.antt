@@ -1,6 +1,6 @@
 -- Absolute values of products, and the units.
-use Rattle.std.specs.Prelude.{◌≡◌, ℕ, zero, suc, ◌*◌, ◌<◌, ◌≤◌, ◌⊎◌, [], ◌∷◌, ℤ, pos, negsuc, ◌*ℤ◌, Some, ◌≢◌, unsigned_abs, refl}
-use Rattle.std.proofs.Common.{sym, ap, ◌∙◌, inl, inr, mul-le-mul, zero-mul, mul-zero, one-mul, arith}
+use Rattle.std.specs.Prelude.{◌≡◌, ℕ, zero, suc, ◌*◌, ◌<◌, ◌⊎◌, [], ◌∷◌, ℤ, pos, negsuc, ◌*ℤ◌, Some, ◌≢◌, unsigned_abs, refl}
+use Rattle.std.proofs.Common.{sym, ap, ◌∙◌, inl, inr, one-mul, arith}
 use Rattle.std.proofs.lemmas.Int.{ints}
 use Rattle.algebra.specs.Integers.{ℤ_ops}
 use Rattle.algebra.specs.Divisors.{Invertible, Associate}

@@ -1,12 +1,11 @@
 -- A sublattice is closed under sums and multiples, so it is the least one that holds its columns.
-use Rattle.std.proofs.Common.{◌≡◌, ℕ, zero, suc, ◌⊎◌, List, [], ◌∷◌, Some, sym, refl, ap, ◌∙◌, subst, ap₂, inl, inr, ⊎_elim}
-use Rattle.std.specs.List.{slice_get}
+use Rattle.std.proofs.Common.{◌≡◌, ℕ, zero, suc, List, [], ◌∷◌, sym, refl, ap, ◌∙◌, subst, ap₂}
 use Rattle.algebra.specs.Ring.{CommRing, Ops}
 use Rattle.algebra.specs.Euclidean.{Listed}
 use Rattle.algebra.proofs.CommRing as Laws
 use Rattle.algebra.proofs.Once.{none_some, some_same}
 use Rattle.algebra.proofs.Quote.{quote, ring}
-use Rattle.lattice.specs.Vectors.{Sublattice, Vec, combine, vadd, vneg, vscale, vsub, vzero}
+use Rattle.lattice.specs.Vectors.{Sublattice, Vec, combine, vadd, vscale, vzero}
 use Rattle.lattice.proofs.Vectors.{cons, vadd-zero}
 
 module _ {A : Type 0} {o : Ops A} (R : CommRing o) where

@@ -1,5 +1,5 @@
 -- Cramer's rule: the determinant times any vector is a sum of the columns.
-use Rattle.std.proofs.Common.{◌≡◌, List, [], ◌∷◌, refl}
+use Rattle.std.proofs.Common.{[], ◌∷◌, refl}
 use Rattle.algebra.specs.Ring.{CommRing, Ops}
 use Rattle.algebra.proofs.Quote.{quote, ring}
 use Rattle.lattice.specs.Vectors.{Sublattice, Vec, vscale}

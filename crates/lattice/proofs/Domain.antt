@@ -1,7 +1,7 @@
 -- What follows where no two elements other than 0 multiply to 0.
-use Rattle.std.proofs.Common.{◌≡◌, ◌⊎◌, [], ◌∷◌, sym, refl, ap, ◌∙◌, subst, ap₂, inl, inr, ⊎_elim}
+use Rattle.std.proofs.Common.{◌≡◌, [], ◌∷◌, sym, refl, ap, ◌∙◌, ⊎_elim}
 use Rattle.algebra.specs.Ring.{CommRing, Ops}
-use Rattle.algebra.specs.Divisors.{Associate, Divides, sub}
+use Rattle.algebra.specs.Divisors.{Divides, sub}
 use Rattle.algebra.specs.Euclidean.{Euclidean, EuclideanLaws, Modulus}
 use Rattle.algebra.proofs.CommRing as Laws
 use Rattle.algebra.proofs.Quote.{quote, ring}

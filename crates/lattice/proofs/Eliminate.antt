@@ -1,12 +1,11 @@
 -- Euclid's algorithm on first coordinates: one column keeps a first coordinate, the others have 0 there.
-use Rattle.std.proofs.Common.{◌≡◌, ℕ, zero, suc, ◌<◌, ◌≤◌, ◌⊎◌, List, [], ◌∷◌, map, sym, refl, ap, ◌∙◌, subst, ap₂, inl, inr, ⊎_elim, arith}
+use Rattle.std.proofs.Common.{◌≡◌, ℕ, zero, suc, ◌≤◌, List, [], ◌∷◌, map, sym, refl, ap, ◌∙◌, subst, ⊎_elim, arith}
 use Rattle.std.proofs.lemmas.Bool.{cases_eq}
 use Rattle.algebra.specs.Ring.{CommRing, Ops}
-use Rattle.algebra.specs.Divisors.{sub}
 use Rattle.algebra.specs.Euclidean.{Euclidean, EuclideanLaws, Listed}
 use Rattle.algebra.proofs.Once.{Listed-map, map-Listed, none_some, some_same}
 use Rattle.algebra.proofs.Quote.{quote, ring}
-use Rattle.lattice.specs.Vectors.{Sublattice, Vec, vadd, vneg, vscale, vsub, vzero}
+use Rattle.lattice.specs.Vectors.{Sublattice, Vec, vadd, vscale, vzero}
 use Rattle.lattice.proofs.Closed.{column_in, sublattice_add, sublattice_least, sublattice_scale, sublattice_zero}
 use Rattle.lattice.proofs.Vectors.{cons}
 

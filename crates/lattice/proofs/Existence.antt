@@ -1,15 +1,15 @@
 -- Every sublattice of full rank has a Hermite form: clear the first row, go on below it, and reduce the first column.
-use Rattle.std.proofs.Common.{◌≡◌, ℕ, zero, suc, List, [], ◌∷◌, map, sym, refl, ap, ◌∙◌, subst, ap₂}
+use Rattle.std.proofs.Common.{◌≡◌, ℕ, zero, suc, List, [], ◌∷◌, map, sym, refl, ap, ◌∙◌, subst}
 use Rattle.algebra.specs.Ring.{CommRing, Ops}
 use Rattle.algebra.specs.Divisors.{Associate}
 use Rattle.algebra.specs.Euclidean.{Canonical, Euclidean, EuclideanLaws, Listed, Modulus}
 use Rattle.algebra.proofs.CommRing as Laws
-use Rattle.algebra.proofs.Once.{Listed-map, map-Listed, some_same}
+use Rattle.algebra.proofs.Once.{map-Listed, some_same}
 use Rattle.algebra.proofs.Quote.{quote, ring}
-use Rattle.lattice.specs.Vectors.{Sublattice, Vec, combine, vadd, vneg, vscale, vsub, vzero}
-use Rattle.lattice.specs.Forms.{Form, Hermite, Reduced, Spanned, columns}
+use Rattle.lattice.specs.Vectors.{Sublattice, Vec, combine, vadd, vscale, vsub, vzero}
+use Rattle.lattice.specs.Forms.{Form, Reduced, Spanned, columns}
 use Rattle.lattice.specs.Statements.{FormOf, Full}
-use Rattle.lattice.proofs.Closed.{column_in, sublattice_add, sublattice_least, sublattice_scale, sublattice_zero}
+use Rattle.lattice.proofs.Closed.{column_in, sublattice_add, sublattice_least, sublattice_scale}
 use Rattle.lattice.proofs.Domain.{factor_zero}
 use Rattle.lattice.proofs.Eliminate.{Eliminated, below, eliminate}
 use Rattle.lattice.proofs.Members.{In, combine_below, in_from_spanned, spanned_from_in}

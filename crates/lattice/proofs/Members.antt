@@ -1,11 +1,11 @@
 -- The vectors of a form by recursion: the first coordinate gives the multiple of the first column.
-use Rattle.std.proofs.Common.{◌≡◌, ℕ, zero, suc, List, [], ◌∷◌, map, sym, refl, ap, ◌∙◌, subst, ap₂}
+use Rattle.std.proofs.Common.{◌≡◌, ℕ, zero, suc, List, [], ◌∷◌, map, sym, refl, ap, ◌∙◌, subst}
 use Rattle.algebra.specs.Ring.{CommRing, Ops}
 use Rattle.algebra.specs.Euclidean.{Euclidean}
 use Rattle.algebra.proofs.CommRing as Laws
 use Rattle.lattice.specs.Vectors.{Vec, combine, vadd, vscale, vsub, vzero}
 use Rattle.lattice.specs.Forms.{Form, Spanned, columns}
-use Rattle.lattice.proofs.Vectors.{cons, vadd-vsub, vadd-zero, vsub_from_sum, vsub-one_scale, vsub_self, vsub-zero_scale}
+use Rattle.lattice.proofs.Vectors.{cons, vadd-vsub, vsub_from_sum, vsub-one_scale, vsub_self, vsub-zero_scale}
 
 module _ {A : Type 0} {o : Ops A} (R : CommRing o) (e : Euclidean A) where
   abbrev pub In : (d : ℕ) → Form A d → Vec A d → Type 0

@@ -1,5 +1,5 @@
 -- The determinant of sums of columns is the determinant of the coefficients times that of the columns.
-use Rattle.std.proofs.Common.{◌≡◌, List, [], ◌∷◌, refl}
+use Rattle.std.proofs.Common.{◌≡◌, [], ◌∷◌, refl}
 use Rattle.algebra.specs.Ring.{CommRing, Ops}
 use Rattle.algebra.proofs.Quote.{quote, ring}
 use Rattle.lattice.specs.Vectors.{Vec, combine}

@@ -1,5 +1,5 @@
 -- Modulo a Hermite form every vector is congruent to exactly one reduced vector.
-use Rattle.std.proofs.Common.{◌≡◌, ℕ, zero, suc, List, [], ◌∷◌, Some, sym, refl, ap, ◌∙◌, subst, ap₂}
+use Rattle.std.proofs.Common.{◌≡◌, ℕ, zero, suc, Some, sym, refl, ap, ◌∙◌, subst}
 use Rattle.std.specs.List.{slice_get}
 use Rattle.algebra.specs.Ring.{CommRing, Ops}
 use Rattle.algebra.specs.Divisors.{sub}

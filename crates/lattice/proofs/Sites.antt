@@ -1,9 +1,7 @@
 -- The reduced vectors modulo a form: each stands once in the list, and there are index-many.
-use Rattle.std.proofs.Common.{◌≡◌, ℕ, zero, suc, ◌*◌, List, [], ◌∷◌, map, length, sym, refl, ap, ◌∙◌, subst, ap₂}
+use Rattle.std.proofs.Common.{◌≡◌, ℕ, zero, suc, ◌*◌, map, length, sym, refl, ap, ◌∙◌, subst}
 use Rattle.std.proofs.lemmas.List.{length-map}
-use Rattle.std.specs.List.{flat_map}
 use Rattle.algebra.specs.Ring.{CommRing, Ops}
-use Rattle.algebra.specs.Divisors.{sub}
 use Rattle.algebra.specs.Euclidean.{Euclidean, EuclideanLaws, Listed, Modulus}
 use Rattle.algebra.proofs.CommRing as Laws
 use Rattle.algebra.proofs.Once.{Once, joined_listed, length_joined, listed_joined, Listed-map, map-Listed, none_some, once_from_places, once_joined, Once-map}

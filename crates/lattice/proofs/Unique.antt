@@ -1,5 +1,5 @@
 -- Two Hermite forms with the same vectors are equal.
-use Rattle.std.proofs.Common.{◌≡◌, ℕ, zero, suc, List, [], ◌∷◌, sym, refl, ap, ◌∙◌, subst, ap₂}
+use Rattle.std.proofs.Common.{◌≡◌, ℕ, zero, suc, sym, refl, ap, ◌∙◌, subst}
 use Rattle.algebra.specs.Ring.{CommRing, Ops}
 use Rattle.algebra.specs.Euclidean.{Euclidean, EuclideanLaws}
 use Rattle.algebra.proofs.CommRing as Laws

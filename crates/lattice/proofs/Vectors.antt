@@ -1,8 +1,8 @@
 -- Identities of vectors, coordinate by coordinate.
-use Rattle.std.proofs.Common.{◌≡◌, ℕ, zero, suc, [], ◌∷◌, sym, refl, ap, ◌∙◌}
+use Rattle.std.proofs.Common.{◌≡◌, ℕ, zero, suc, [], ◌∷◌, refl}
 use Rattle.algebra.specs.Ring.{CommRing, Ops}
 use Rattle.algebra.proofs.Quote.{quote, ring}
-use Rattle.lattice.specs.Vectors.{Vec, vadd, vneg, vscale, vsub, vzero}
+use Rattle.lattice.specs.Vectors.{Vec, vadd, vscale, vsub, vzero}
 
 pub cons : {A B : Type 0} {a b : A} {u v : B} → a ≡ b → u ≡ v → ◌≡◌ {A = A × B} (a, u) (b, v)
 cons h k = λ i. (h i, k i)

@@ -1,9 +1,9 @@
 -- Lower triangular forms by recursion on the rank: a diagonal entry, the column below it, and the form of what is left.
-use Rattle.std.specs.Prelude.{◌≡◌, ℕ, zero, suc, ◌*◌, List, [], ◌∷◌, map}
+use Rattle.std.specs.Prelude.{ℕ, zero, suc, ◌*◌, List, [], ◌∷◌, map}
 use Rattle.std.specs.List.{flat_map}
 use Rattle.algebra.specs.Ring.{Ops}
 use Rattle.algebra.specs.Euclidean.{Euclidean, Listed, Modulus}
-use Rattle.lattice.specs.Vectors.{Sublattice, Vec, vzero}
+use Rattle.lattice.specs.Vectors.{Sublattice, Vec}
 
 abbrev pub Form : Type 0 → ℕ → Type 0
 Form A zero = Unit {0}

@@ -1,9 +1,9 @@
 -- A quotient whose coordinates are nearest keeps the law of division, and its remainder is small.
-use Rattle.std.proofs.Common.{◌≡◌, ℕ, ◌*◌, ◌^◌, ◌<◌, ◌≤◌, ℤ, nat_abs, sym, refl, ap, ◌∙◌, subst, ap₂, arith}
+use Rattle.std.proofs.Common.{◌≡◌, ℕ, ◌*◌, ◌^◌, ◌<◌, ◌≤◌, ℤ, nat_abs, sym, subst, arith}
 use Rattle.algebra.specs.Euclidean as Euclid
 use Rattle.algebra.specs.Quadratic.{Quad}
 use Rattle.planes.specs.declared.Plane.{Plane}
-use Rattle.planes.specs.Planes.{Nearest, left_over, norm, over, pair, plane}
+use Rattle.planes.specs.Planes.{Nearest, left_over, norm, over, plane}
 use Rattle.planes.proofs.Division.{arithmetic, divided, remainder_small}
 use Rattle.planes.proofs.Norms.{im_bound, re_bound}
 

@@ -1,10 +1,10 @@
 -- Rounding to the nearest whole number, by the quotient that is rounded down.
-use Rattle.std.proofs.Common.{◌≡◌, ℕ, zero, suc, ◌+◌, ◌*◌, ◌/◌, ◌^◌, ◌<◌, ◌≤◌, Bool, true, false, T, ℤ, pos, negsuc, ◌+ℤ◌, ◌-ℤ◌, nat_abs, sym, refl, ap, ◌∙◌, subst, ap₂, div-le_self, arith, w64, to_z, of_z}
+use Rattle.std.proofs.Common.{◌≡◌, ℕ, ◌*◌, ◌^◌, ◌<◌, ◌≤◌, Bool, true, false, T, ℤ, pos, negsuc, ◌+ℤ◌, ◌-ℤ◌, nat_abs, sym, ◌∙◌, subst, div-le_self, arith, w64, to_z, of_z}
 use lib.Signed.{lt_z, non_neg}
 use Rattle.ring.proofs.Limits.{back}
 use Rattle.std.proofs.lemmas.Int.{ints, to_z_pos}
 use Rattle.std.specs.Int.{int_div_euclid, int_rem_euclid}
-use Rattle.algebra.proofs.Floor.{Floor, floor_euclid}
+use Rattle.algebra.proofs.Floor.{floor_euclid}
 use Rattle.planes.specs.Planes.{Nearest}
 use Rattle.planes.proofs.Division.{nearest_above, nearest_below}
 

@@ -1,5 +1,5 @@
 -- The steps of turning an element into the sector.
-use Rattle.std.proofs.Common.{◌≡◌, ℕ, zero, suc, ◌+◌, ◌*◌, ◌^◌, ◌<◌, ◌≤◌, true, false, ℤ, sym, refl, ap, ◌∙◌, subst, pow-suc, add-one, arith, pow_mono}
+use Rattle.std.proofs.Common.{◌≡◌, ℕ, suc, ◌+◌, ◌*◌, ◌^◌, ◌<◌, ◌≤◌, true, false, ℤ, sym, ap, ◌∙◌, subst, pow-suc, add-one, arith, pow_mono}
 use Rattle.algebra.specs.Quadratic.{Quad}
 use Rattle.planes.specs.declared.Plane.{Plane}
 use Rattle.planes.specs.Planes.{Turned, sector, turn, turns}

@@ -1,12 +1,12 @@
 -- The lists of canonical elements: 0, and the elements of the sector, each once.
-use Rattle.std.proofs.Common.{◌≡◌, ℕ, zero, suc, ◌+◌, ◌-◌, ◌*◌, ◌/◌, ◌%◌, ◌<◌, ◌≤◌, Bool, true, false, cond, ◌&&◌, eqb, ◌⊎◌, List, [], ◌∷◌, map, ℤ, pos, negsuc, nat_abs, Some, None, filter, sym, refl, ap, ◌∙◌, subst, ap₂, inl, inr, ⊎_elim, true≢false, mul-le-mul, pos_of_ne-zero, div-add-mod', arith}
+use Rattle.std.proofs.Common.{◌≡◌, ℕ, zero, suc, ◌+◌, ◌*◌, ◌/◌, ◌%◌, ◌<◌, ◌≤◌, true, ◌&&◌, eqb, ◌⊎◌, [], ◌∷◌, ℤ, pos, negsuc, nat_abs, Some, sym, refl, ap, ◌∙◌, subst, ap₂, inl, inr, ⊎_elim, div-add-mod', arith}
 use lib.Arith.{digits_div, digits_mod, digits_lt}
 use Rattle.std.proofs.lemmas.Int.{ints}
-use Rattle.std.specs.List.{range_with_len, slice_get}
+use Rattle.std.specs.List.{slice_get}
 use Rattle.algebra.specs.Divisors.{Associate}
 use Rattle.algebra.specs.Euclidean.{Canonical, Listed}
 use Rattle.algebra.specs.Quadratic.{Quad}
-use Rattle.algebra.proofs.Once.{Once, kept_listed, listed_kept, nth_map_counting, map_counting_listed, none_some, once_kept, Once-map_counting, Once-place, some_same}
+use Rattle.algebra.proofs.Once.{Once, kept_listed, listed_kept, nth_map_counting, none_some, once_kept, Once-map_counting, Once-place, some_same}
 use Rattle.ring.proofs.Places.{both}
 use Rattle.planes.specs.declared.Plane.{Plane}
 use Rattle.planes.specs.declared.Plane.TheVariants.{Square, Hexagonal}

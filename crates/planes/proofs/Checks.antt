@@ -1,7 +1,6 @@
 -- A modulus is an element of the sector.
-use Rattle.std.proofs.Common.{◌≡◌, ℕ, ◌<◌, ◌≤◌, Bool, true, false, cond, not, ◌&&◌, ◌⊎◌, ℤ, pos, is_some, Ok, Err, Result, sym, refl, ap, ◌∙◌, subst, ap₂, inl, inr, ⊎_elim, true≢false, arith}
+use Rattle.std.proofs.Common.{◌≡◌, ◌<◌, Bool, true, false, cond, not, ◌&&◌, pos, is_some, Ok, sym, refl, ap, ◌∙◌, ap₂, ⊎_elim, true≢false, arith}
 use Rattle.refusal.specs.declared.Cause.TheVariants.{Modulus}
-use Rattle.refusal.specs.declared.Refusal.{Refusal}
 use Rattle.refusal.specs.Numbers.{refuse}
 use Rattle.ring.specs.declared.elements.Element.{Element}
 use Rattle.ring.specs.Answers.{canonical_place, divisor_check, is_zero, modulus_check}

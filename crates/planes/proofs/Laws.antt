@@ -1,5 +1,5 @@
 -- The planes keep every law of a ring.
-use Rattle.std.proofs.Common.{◌≡◌, ℕ, zero, suc, ◌+◌, ◌*◌, ◌<◌, ◌≤◌, ◌⊎◌, ℤ, pos, negsuc, nat_abs, sym, refl, ap, ◌∙◌, subst, inl, inr, ⊎_elim, pos_of_ne-zero, arith, lit≤}
+use Rattle.std.proofs.Common.{◌≡◌, ◌<◌, ◌⊎◌, ℤ, pos, sym, ap, ◌∙◌, inl, inr, ⊎_elim, pos_of_ne-zero, arith, lit≤}
 use Rattle.algebra.proofs.Whole.{zero_product}
 use Rattle.algebra.specs.Euclidean.{EuclideanLaws, Modulus}
 use Rattle.algebra.specs.Quadratic.{Quad}

@@ -1,19 +1,19 @@
 -- The number of a canonical element is the count of the points before it that have its norm.
-use Rattle.std.proofs.Common.{◌≡◌, ℕ, zero, suc, ◌+◌, ◌-◌, ◌*◌, ◌/◌, ◌%◌, ◌<◌, ◌≤◌, Bool, true, false, cond, ◌&&◌, eqb, leb, ◌⊎◌, length, take, ℤ, pos, nat_abs, ◌≤ℤ◌, is_some, Some, None, Ok, Err, filter, Option, Result, sym, refl, ap, ◌∙◌, subst, ap₂, inl, inr, ⊎_elim, true≢false, mod-lt, div-lt_iff_lt-mul, arith, lit≤}
+use Rattle.std.proofs.Common.{◌≡◌, ℕ, suc, ◌+◌, ◌-◌, ◌*◌, ◌/◌, ◌%◌, ◌<◌, ◌≤◌, Bool, true, false, cond, ◌&&◌, leb, length, take, ℤ, pos, nat_abs, ◌≤ℤ◌, Some, None, Ok, filter, Option, Result, sym, refl, ap, ◌∙◌, subst, ap₂, ⊎_elim, true≢false, arith, lit≤}
 use Rattle.std.proofs.lemmas.Int.{ints}
 use Rattle.std.proofs.lemmas.Bool.{cases_lt}
-use Rattle.std.specs.List.{range_with_len, slice_get}
+use Rattle.std.specs.List.{slice_get}
 use Rattle.std.specs.Option.{option_map, ok_or}
 use Rattle.refusal.specs.declared.Cause.TheVariants.{Index, Outside}
 use Rattle.refusal.specs.declared.Refusal.{Refusal}
 use Rattle.refusal.specs.Numbers.{refuse, refused, then}
 use Rattle.ring.specs.declared.elements.Element.{Element}
 use Rattle.ring.specs.Elements.{element, same}
-use Rattle.ring.specs.Answers.{canonical_element_answer, canonical_place, count_answer, norm_of, place}
+use Rattle.ring.specs.Answers.{canonical_element_answer, canonical_place, count_answer, norm_of}
 use Rattle.ring.proofs.Places.{place_none, place_nth, same_refl, same_true}
 use Rattle.algebra.specs.Euclidean.{Listed}
 use Rattle.algebra.specs.Quadratic.{Quad}
-use Rattle.algebra.proofs.Once.{listed_kept, map_counting_listed, some_same}
+use Rattle.algebra.proofs.Once.{listed_kept, map_counting_listed}
 use Rattle.planes.specs.declared.Plane.{Plane}
 use Rattle.planes.specs.Planes.{axes, canonical, canonical_of, near, norm, pair, plane, point, sector}
 use Rattle.planes.proofs.Canonical.{canonical_once, listed_sector, norm_nought, point_at, sector_listed, sector_positive, test_passes}

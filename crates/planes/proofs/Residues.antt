@@ -1,6 +1,6 @@
 -- Residues modulo m: with m = g·m' and g the content, the multiples of m have second coordinates divisible by g, and
 -- the whole numbers among them are the multiples of the width.
-use Rattle.std.proofs.Common.{◌≡◌, ℕ, zero, suc, ◌+◌, ◌-◌, ◌*◌, ◌/◌, ◌%◌, ◌<◌, ◌≤◌, ◌⊎◌, List, [], ◌∷◌, map, length, ℤ, pos, negsuc, ◌+ℤ◌, ◌-ℤ◌, ◌*ℤ◌, neg_ℤ, nat_abs, Some, None, sym, refl, ap, ◌∙◌, subst, ap₂, inl, inr, ⊎_elim, le_refl, mod-lt, mod-eq_of_lt, div-lt_iff_lt-mul, mul-le-mul, pos_of_ne-zero, div-add-mod', div-le_self, mul-div_cancel, arith}
+use Rattle.std.proofs.Common.{◌≡◌, ℕ, zero, suc, ◌+◌, ◌*◌, ◌/◌, ◌%◌, ◌<◌, [], ◌∷◌, length, ℤ, pos, negsuc, ◌+ℤ◌, ◌-ℤ◌, ◌*ℤ◌, neg_ℤ, nat_abs, Some, sym, refl, ap, ◌∙◌, subst, ap₂, ⊎_elim, le_refl, mod-lt, mod-eq_of_lt, div-lt_iff_lt-mul, mul-le-mul, div-add-mod', div-le_self, mul-div_cancel, arith}
 use native.Mathlib.Nat.{div-eq_of_lt, mod-le}
 use lib.Arith.{digits_div, digits_mod, digits_lt}
 use Rattle.std.proofs.lemmas.List.FromFn.{length-map-range_with_len}
@@ -8,7 +8,7 @@ use Rattle.std.proofs.lemmas.Int.{ints}
 use Rattle.std.specs.List.{slice_get}
 use Rattle.algebra.specs.Ring.{Ops, CommRing}
 use Rattle.algebra.specs.Integers.{ℤ_ops}
-use Rattle.algebra.specs.Divisors.{Congruent, Divides, sub}
+use Rattle.algebra.specs.Divisors.{Congruent, Divides}
 use Rattle.algebra.specs.Euclidean.{Listed}
 use Rattle.algebra.specs.Quadratic.{Quad, conjugate, norm_form}
 use Rattle.algebra.specs.Statements.{IsGcd}
@@ -22,7 +22,7 @@ use Rattle.algebra.proofs.Whole.{nat_abs_mul, zero_from_unsigned_abs, zero_produ
 use Rattle.planes.specs.declared.Plane.{Plane}
 use Rattle.planes.specs.Planes.{content, norm, pair, residues, trace, width}
 use Rattle.planes.proofs.Division.{arithmetic, times_whole}
-use Rattle.planes.proofs.Norms.{im_bound, mul-conjugate_is_norm, norm-mul, re_bound}
+use Rattle.planes.proofs.Norms.{mul-conjugate_is_norm, norm-mul}
 
 -- the greatest common divisor of two integers
 pub record Gcd (x y : ℤ) (g : ℕ) : Type 0 where

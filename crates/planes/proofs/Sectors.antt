@@ -1,12 +1,10 @@
 -- Each element but 0 has just one associate in the sector.
-use Rattle.std.proofs.Common.{◌≡◌, ℕ, zero, suc, ◌+◌, ◌*◌, ◌<◌, ◌≤◌, Bool, true, false, cond, ◌&&◌, ◌⊎◌, List, [], ◌∷◌, ℤ, pos, negsuc, ◌+ℤ◌, ◌-ℤ◌, ◌*ℤ◌, neg_ℤ, nat_abs, Some, None, sym, refl, ap, ◌∙◌, subst, ap₂, inl, inr, ⊎_elim, true≢false, arith, lit<, below_more}
-use lib.Signed.{le_z, lt_z}
+use Rattle.std.proofs.Common.{◌≡◌, ℕ, zero, suc, ◌+◌, ◌<◌, true, false, [], ◌∷◌, ℤ, pos, negsuc, ◌-ℤ◌, neg_ℤ, Some, None, sym, refl, ap, ◌∙◌, ap₂, inl, inr, ⊎_elim, arith, lit<, below_more}
 use Rattle.std.proofs.lemmas.Int.{ints}
 use Rattle.std.proofs.lemmas.Bool.{cases_Bool}
 use Rattle.std.specs.List.{slice_get}
 use Rattle.algebra.specs.Ring.{CommRing, Ops}
-use Rattle.algebra.specs.Divisors.{Associate, Invertible}
-use Rattle.algebra.specs.Euclidean.{Listed}
+use Rattle.algebra.specs.Divisors.{Associate}
 use Rattle.algebra.specs.Quadratic.{Quad}
 use Rattle.algebra.proofs.Integers.{ℤ_ring}
 use Rattle.algebra.proofs.Quadratic.{quad_ring}

@@ -1,8 +1,7 @@
 -- The canonical elements of norm 1 to 64, by one computed test over all these norms.
-use Rattle.std.proofs.Common.{◌≡◌, ℕ, zero, suc, ◌+◌, ◌*◌, ◌<◌, ◌≤◌, Bool, true, false, cond, ◌&&◌, leb, ◌⊎◌, List, [], ◌∷◌, length, ℤ, pos, negsuc, filter, sym, refl, ap, ◌∙◌, subst, ap₂, inl, inr, ⊎_elim, true≢false, arith}
+use Rattle.std.proofs.Common.{◌≡◌, ℕ, zero, suc, ◌≤◌, Bool, true, false, ◌&&◌, leb, List, [], ◌∷◌, length, ℤ, filter, sym, refl, ap, ◌∙◌, ap₂, ⊎_elim, true≢false, arith}
 use Rattle.std.proofs.lemmas.Bool.{cases_eq}
 use Rattle.algebra.specs.Quadratic.{Quad}
-use Rattle.ring.specs.declared.elements.Coordinates.TheVariants.{Two}
 use Rattle.ring.specs.Elements.{same}
 use Rattle.ring.proofs.Places.{both, same_true}
 use Rattle.planes.specs.declared.Plane.{Plane}

@@ -1,9 +1,8 @@
 -- Equal elements, places in lists, and what the checks of a ring's calls tell.
-use Rattle.std.proofs.Common.{◌≡◌, ℕ, zero, suc, ◌≤◌, Bool, true, false, cond, not, ◌&&◌, eqb, leb, List, [], ◌∷◌, ℤ, pos, negsuc, nat_abs, is_some, Some, None, Ok, Err, Option, Result, sym, refl, ap, ◌∙◌, subst, ap₂, true≢false, arith}
+use Rattle.std.proofs.Common.{◌≡◌, ℕ, zero, suc, Bool, true, false, cond, not, ◌&&◌, List, [], ◌∷◌, ℤ, pos, negsuc, is_some, Some, None, Ok, Option, sym, refl, ap, ◌∙◌, subst, ap₂, true≢false, arith}
 use Rattle.std.specs.Option.{option_map}
 use Rattle.std.specs.List.{slice_get}
-use Rattle.algebra.specs.Euclidean.{Listed, Canonical, Modulus}
-use Rattle.algebra.specs.Quadratic.{Quad}
+use Rattle.algebra.specs.Euclidean.{Canonical, Modulus}
 use Rattle.refusal.specs.declared.Cause.TheVariants.{Modulus as NoModulus}
 use Rattle.refusal.specs.Numbers.{refuse}
 use Rattle.ring.specs.declared.elements.Coordinates.{Coordinates}
@@ -11,7 +10,7 @@ use Rattle.ring.specs.declared.elements.Coordinates.TheVariants.{One, Two}
 use Rattle.ring.specs.declared.elements.Element.{Element}
 use Rattle.ring.specs.Elements.{Carrier, ops, element, value, same, same_whole}
 use Rattle.ring.specs.Meaning.{Meaning}
-use Rattle.ring.specs.Answers.{place, is_zero, canonical_place, modulus_check, divisor_check}
+use Rattle.ring.specs.Answers.{place, is_zero, canonical_place, modulus_check}
 
 pub both : (a b : Bool) → (a && b) ≡ true → (a ≡ true) × (b ≡ true)
 both true b h = (refl, h)

@@ -1,5 +1,5 @@
 -- What each call of a ring answers.
-use Rattle.std.specs.Prelude.{◌≡◌, ℕ, suc, ◌≤◌, Bool, true, false, cond, not, ◌&&◌, List, [], ◌∷◌, length, is_some, Some, None, Ok, Err, Option, Result, ◌==◌, nat_le}
+use Rattle.std.specs.Prelude.{◌≡◌, ℕ, suc, Bool, cond, not, ◌&&◌, List, [], ◌∷◌, length, is_some, Some, None, Ok, Err, Option, Result, ◌==◌, nat_le}
 use Rattle.std.specs.Option.{option_map, ok_or}
 use Rattle.std.specs.List.{slice_get}
 use Rattle.algebra.specs.Divisors.{Congruent, Associate}
@@ -9,8 +9,7 @@ use Rattle.refusal.specs.declared.Cause.TheVariants.{Modulus, Outside}
 use Rattle.refusal.specs.Numbers.{refuse, refused, then}
 use Rattle.ring.specs.declared.elements.Element.{Element}
 use Rattle.ring.specs.declared.elements.Division.{Division}
-use Rattle.ring.specs.declared.elements.Coordinates.{Coordinates}
-use Rattle.ring.specs.Elements.{Carrier, ops, element, value, Member, same, admitted, norm_check}
+use Rattle.ring.specs.Elements.{ops, element, value, Member, same, admitted, norm_check}
 use Rattle.ring.specs.Meaning.{Meaning}
 
 -- where the checks pass, an answer with P; else their refusal

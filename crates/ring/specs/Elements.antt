@@ -1,5 +1,5 @@
 -- The elements of a ring, as mathematics has them and as the code holds them.
-use Rattle.std.specs.Prelude.{◌≡◌, ℕ, ◌^◌, ◌≤◌, Bool, true, false, cond, ◌&&◌, ℤ, pos, negsuc, Ok, Result, ◌==◌, nat_le, unsigned_abs}
+use Rattle.std.specs.Prelude.{◌≡◌, ℕ, ◌^◌, ◌≤◌, Bool, false, cond, ◌&&◌, ℤ, pos, negsuc, Ok, Result, ◌==◌, nat_le, unsigned_abs}
 use Rattle.algebra.specs.Ring.{Ops}
 use Rattle.algebra.specs.Integers.{ℤ_ops}
 use Rattle.algebra.specs.Quadratic.{Quad, quad_ops}

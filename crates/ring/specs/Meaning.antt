@@ -1,5 +1,5 @@
 -- What a ring is: one value, and the laws that it keeps.
-use Rattle.std.specs.Prelude.{◌≡◌, ℕ, ◌*◌, ◌≤◌, List}
+use Rattle.std.specs.Prelude.{◌≡◌, ◌*◌, ◌≤◌}
 use Rattle.algebra.specs.Euclidean.{Euclidean, EuclideanLaws, Listed, Modulus}
 use Rattle.ring.specs.declared.elements.Coordinates.{Coordinates}
 use Rattle.ring.specs.Elements.{Carrier, ops, element, Within, Mild}

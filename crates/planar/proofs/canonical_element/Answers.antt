@@ -1,4 +1,4 @@
-use Rattle.std.proofs.Common.{sym, ap, ◌∙◌, ap₂}
+use Rattle.std.proofs.Common.{sym, ◌∙◌, ap₂}
 use Rattle.std.specs.Option.{ok_or}
 use Rattle.planes.proofs.Numbers.{element_inside}
 use Rattle.planar.proofs.canonical_element.Goals as goal

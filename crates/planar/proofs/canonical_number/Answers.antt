@@ -1,7 +1,7 @@
-use Rattle.std.proofs.Common.{◌≡◌, ℕ, ◌<◌, ◌≤◌, true, false, length, take, Ok, Err, filter, sym, ap, ◌∙◌, subst, ⊎_elim, arith}
-use Rattle.ring.specs.Answers.{canonical_number_answer, one_check}
+use Rattle.std.proofs.Common.{ℕ, ◌<◌, ◌≤◌, length, take, Ok, Err, filter, sym, ap, ◌∙◌, subst, ⊎_elim, arith}
+use Rattle.ring.specs.Answers.{one_check}
 use Rattle.ring.proofs.Checks.{passes}
-use Rattle.planes.specs.Planes.{canonical_of, near, norm, pair, plane, sector}
+use Rattle.planes.specs.Planes.{canonical_of, near, norm, pair, plane}
 use Rattle.planes.proofs.Numbers.{number_inside, number_large, number_outside, sector_near}
 use Rattle.planar.proofs.canonical_number.Goals as goal
 

@@ -1,4 +1,4 @@
-use Rattle.std.proofs.Common.{◌≡◌, ◌<◌, sym, ap, ◌∙◌, arith}
+use Rattle.std.proofs.Common.{◌<◌, sym, ap, ◌∙◌, arith}
 use Rattle.planes.specs.Planes.{canonical_of}
 use Rattle.planes.proofs.Points.{count_hit, count_miss}
 use Rattle.planar.proofs.canonical.count_before.Goals as goal

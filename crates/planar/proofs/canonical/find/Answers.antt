@@ -1,4 +1,4 @@
-use Rattle.std.proofs.Common.{◌≡◌, ℕ, ◌<◌, Some, None, filter, sym, ap, ◌∙◌, arith}
+use Rattle.std.proofs.Common.{Some, filter, sym, ap, ◌∙◌, arith}
 use Rattle.std.specs.Option.{option_map}
 use Rattle.std.specs.List.{slice_get}
 use Rattle.ring.specs.Elements.{element}

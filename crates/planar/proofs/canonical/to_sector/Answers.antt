@@ -1,4 +1,4 @@
-use Rattle.std.proofs.Common.{◌≡◌, ◌<◌, ◌≤◌, sym, refl, ap, ◌∙◌, arith, below_more}
+use Rattle.std.proofs.Common.{sym, refl, ap, ◌∙◌, arith, below_more}
 use Rattle.planes.specs.Planes.{pair, sector}
 use Rattle.planar.proofs.Turns.{doubled, low, turned_after, turned_now, turns_more}
 use Rattle.planar.proofs.canonical.to_sector.Goals as goal

@@ -1,7 +1,6 @@
-use Rattle.std.proofs.Common.{◌≡◌, ◌*◌, ◌<◌, ◌≤◌, ℤ, pos, ◌+ℤ◌, nat_abs, sym, ap, ◌∙◌, subst, ap₂, arith, w64, to_z, of_z}
+use Rattle.std.proofs.Common.{◌≡◌, ◌<◌, ℤ, pos, nat_abs, ◌∙◌, subst, ap₂, arith, w64}
 use Rattle.std.proofs.lemmas.Int.{to_z_pos}
 use Rattle.std.specs.Int.{int_div_euclid, int_rem_euclid}
-use Rattle.planes.specs.Planes.{Nearest}
 use Rattle.ring.proofs.Limits.{back}
 use Rattle.planar.proofs.Rounding.{next, past_half, rounded_bound, rounds_down, rounds_up, this, up_to_half}
 use Rattle.planar.proofs.division.nearest.Goals as goal

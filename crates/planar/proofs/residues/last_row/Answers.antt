@@ -1,4 +1,4 @@
-use Rattle.std.proofs.Common.{◌≡◌, ◌/◌, ◌<◌, ℤ, pos, ◌-ℤ◌, ◌*ℤ◌, nat_abs, sym, ap, ◌∙◌, subst, mod-lt, div-le_self, arith, w64}
+use Rattle.std.proofs.Common.{◌≡◌, ◌/◌, ◌<◌, pos, ◌-ℤ◌, ◌*ℤ◌, nat_abs, mod-lt, div-le_self, arith, w64}
 use Rattle.std.specs.Int.{int_rem_euclid}
 use Rattle.std.proofs.lemmas.Int.{to_z_pos}
 use Rattle.ring.proofs.Limits.{back}

@@ -1,4 +1,4 @@
-use Rattle.std.proofs.Common.{◌*◌, ◌^◌, lit≤}
+use Rattle.std.proofs.Common.{◌^◌, lit≤}
 use Rattle.ring.proofs.Limits.{product_bound, product_fits, product_is}
 use Rattle.ring.proofs.arithmetic.times.Goals as goal
 
