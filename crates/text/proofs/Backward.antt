@@ -2,7 +2,7 @@
 use Rattle.std.proofs.Common.{◌≡◌, ℕ, zero, suc, ◌-◌, ◌*◌, ◌^◌, ◌<◌, ◌≤◌, Bool, true, false, cond, ◌&&◌, eqb, leb, List, [], ◌∷◌, ◌++◌, length, get_or, take, drop, replicate, ℤ, pos, negsuc, Some, None, Ok, Err, codes, decimal, Option, Result, sym, refl, ap, ◌∙◌, subst, ap₂, mul-le-mul, arith, lit<, length-append}
 use lib.ListN.{length-replicate}
 use Rattle.std.specs.Fmt.{signed_decimal}
-use Rattle.std.specs.List.{AllByRecursion as All}
+use Rattle.std.specs.List.{AllByRecursion}
 use Rattle.std.specs.Str.{all_ascii_digits}
 use Rattle.std.specs.Str.Parse.{digits_value as value}
 use Rattle.std.proofs.lemmas.Fmt.{decimal-digits_value}
@@ -105,7 +105,7 @@ element_back (Two a b) bs e h =
 -- the elements that were read, as they stood
 pub record Listing (k : Coordinates) (n : ℕ) (o : Option (List ℕ)) (es : List Element) : Type 0 where
   pub count : length es ≡ n
-  pub each : All (Writable k) es
+  pub each : AllByRecursion (Writable k) es
   pub bytes : (bs : List ℕ) → o ≡ Some bs → bs ≡ elements_written k es
 
 none_read : (k : Coordinates) (n : ℕ) (es : List Element) → elements k n None ≡ Ok es → es ≡ []
@@ -185,7 +185,7 @@ pub record Laid (k : Coordinates) (n : ℕ) (bs : List ℕ) (m : Square) : Type 
   pub rank : m.rank ≡ n
   pub bytes : bs ≡ elements_written k (take (n * n) m.entries)
   pub nine : length m.entries ≡ 9
-  pub each : All (Writable k) (take (n * n) m.entries)
+  pub each : AllByRecursion (Writable k) (take (n * n) m.entries)
   pub zeros : drop (n * n) m.entries ≡ replicate (9 - n * n) zero_element
 
 pub matrix_back : (k : Coordinates) (n : ℕ) (bs : List ℕ) (m : Square) → n * n ≤ 9 → matrix_answer k n bs ≡ Ok m → Laid k n bs m

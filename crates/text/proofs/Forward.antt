@@ -3,7 +3,7 @@ use Rattle.std.proofs.Common.{◌≡◌, ℕ, zero, suc, ◌+◌, ◌-◌, ◌*�
 use lib.Signed.{mag}
 use Rattle.std.specs.Int.{IsInRange}
 use Rattle.std.specs.Fmt.{signed_decimal}
-use Rattle.std.specs.List.{AllByRecursion as All}
+use Rattle.std.specs.List.{AllByRecursion}
 use Rattle.std.specs.Str.Parse.{digits_value as value}
 use Rattle.std.proofs.lemmas.Fmt.{decimal_digit, decimal_nonempty, digits_decimal, first_decimal, length-decimal-le, length_signed_le, digits_value-decimal}
 use Rattle.std.proofs.ByRecursion.{All-append, All-from_get_or, All-weaker}
@@ -30,10 +30,10 @@ use Rattle.text.proofs.Numerals.{own}
 
 -- m is none of the bytes
 abbrev Lacks : ℕ → List ℕ → Type 0
-Lacks m bs = All (λ b. eqb m b ≡ false) bs
+Lacks m bs = AllByRecursion (λ b. eqb m b ≡ false) bs
 
 -- bytes from lo to hi lack a mark that is not between them
-lacks : (m lo hi : ℕ) (bs : List ℕ) → (m < lo) ⊎ (hi < m) → All (IsInRange lo hi) bs → Lacks m bs
+lacks : (m lo hi : ℕ) (bs : List ℕ) → (m < lo) ⊎ (hi < m) → AllByRecursion (IsInRange lo hi) bs → Lacks m bs
 lacks m lo hi bs out h = All-weaker (IsInRange lo hi) (λ b. eqb m b ≡ false) (λ b i. ne_eqb m b (λ e. ⊎_elim (λ l. omega arith) (λ l. omega arith) out)) bs h
 
 pub cut_between : (m : ℕ) (xs ys : List ℕ) → Lacks m xs → (front m (xs ++ (m ∷ ys)) ≡ xs) × (back m (xs ++ (m ∷ ys)) ≡ Some ys)
@@ -64,13 +64,13 @@ number_forth n l =
     ∙ cond-true _ _ _ (digits_decimal own n small)
     ∙ ap Ok (digits_value-decimal own n small)
 
-decimal_bytes : (n : ℕ) → n < 2 ^ 64 → All (IsInRange 48 57) (decimal n)
+decimal_bytes : (n : ℕ) → n < 2 ^ 64 → AllByRecursion (IsInRange 48 57) (decimal n)
 decimal_bytes n l = All-from_get_or (IsInRange 48 57) (decimal n) 0 (λ i h. digit_at (decimal n) i (own.to _ (digits_decimal own n l)) h)
 
-wider : (lo hi low high : ℕ) (bs : List ℕ) → low ≤ lo → hi ≤ high → All (IsInRange lo hi) bs → All (IsInRange low high) bs
+wider : (lo hi low high : ℕ) (bs : List ℕ) → low ≤ lo → hi ≤ high → AllByRecursion (IsInRange lo hi) bs → AllByRecursion (IsInRange low high) bs
 wider lo hi low high bs l h a = All-weaker (IsInRange lo hi) (IsInRange low high) (λ b i. (omega arith, omega arith)) bs a
 
-pub signed_bytes : (z : ℤ) → Short z → All (IsInRange 45 57) (signed_decimal z)
+pub signed_bytes : (z : ℤ) → Short z → AllByRecursion (IsInRange 45 57) (signed_decimal z)
 signed_bytes (pos n) l = wider 48 57 45 57 (decimal n) (lit≤ tt) (lit≤ tt) (decimal_bytes n (omega arith))
 signed_bytes (negsuc n) l = ((lit≤ tt, lit≤ tt), wider 48 57 45 57 (decimal (suc n)) (lit≤ tt) (lit≤ tt) (decimal_bytes (suc n) (omega arith)))
 
@@ -87,7 +87,7 @@ element_forth (Two a b) e w =
     let c = cut_between 58 (signed_decimal e.x) (signed_decimal e.y) (lacks 58 45 57 (signed_decimal e.x) (inr (lit< tt)) (signed_bytes e.x w.x_short)) in
     rw (c.0, c.1, coordinate_forth e.x w.x_short, coordinate_forth e.y w.y_short)
 
-element_bytes : (k : Coordinates) (e : Element) → Writable k e → All (IsInRange 45 58) (element_written k e)
+element_bytes : (k : Coordinates) (e : Element) → Writable k e → AllByRecursion (IsInRange 45 58) (element_written k e)
 element_bytes One e w = wider 45 57 45 58 (signed_decimal e.x) (lit≤ tt) (lit≤ tt) (signed_bytes e.x w.x_short)
 element_bytes (Two a b) e w =
     All-append (IsInRange 45 58) (signed_decimal e.x) (58 ∷ signed_decimal e.y)
@@ -97,7 +97,7 @@ element_bytes (Two a b) e w =
 no_comma : (k : Coordinates) (e : Element) → Writable k e → Lacks 44 (element_written k e)
 no_comma k e w = lacks 44 45 58 (element_written k e) (inl (lit< tt)) (element_bytes k e w)
 
-pub elements_forth : (k : Coordinates) (es : List Element) → 0 < length es → All (Writable k) es → elements k (length es) (Some (elements_written k es)) ≡ Ok es
+pub elements_forth : (k : Coordinates) (es : List Element) → 0 < length es → AllByRecursion (Writable k) es → elements k (length es) (Some (elements_written k es)) ≡ Ok es
 elements_forth k [] l w = absurd (omega arith)
 elements_forth k (e ∷ []) l w =
     let c = cut_nowhere 44 (element_written k e) (no_comma k e w.0) in
@@ -107,7 +107,7 @@ elements_forth k (e ∷ f ∷ es) l w =
     let r = elements_forth k (f ∷ es) (omega arith) w.1 in
     rw (c.0, c.1, element_forth k e w.0, r)
 
-pub elements_bytes : (k : Coordinates) (es : List Element) → All (Writable k) es → All (IsInRange 44 58) (elements_written k es)
+pub elements_bytes : (k : Coordinates) (es : List Element) → AllByRecursion (Writable k) es → AllByRecursion (IsInRange 44 58) (elements_written k es)
 elements_bytes k [] w = tt
 elements_bytes k (e ∷ []) w = wider 45 58 44 58 (element_written k e) (lit≤ tt) (lit≤ tt) (element_bytes k e w.0)
 elements_bytes k (e ∷ f ∷ es) w =
@@ -130,7 +130,7 @@ element-length (Two a b) e w =
     let y = signed_length e.y w.y_short in
     rw length-append (omega arith)
 
-elements_length : (k : Coordinates) (es : List Element) → All (Writable k) es → length (elements_written k es) ≤ 36 * length es
+elements_length : (k : Coordinates) (es : List Element) → AllByRecursion (Writable k) es → length (elements_written k es) ≤ 36 * length es
 elements_length k [] w = omega arith
 elements_length k (e ∷ []) w = let x = element-length k e w.0 in omega arith
 elements_length k (e ∷ f ∷ es) w =
@@ -139,7 +139,7 @@ elements_length k (e ∷ f ∷ es) w =
     rw length-append (omega arith)
 
 -- a line whose key has small letters
-pub line_forth : (s : State) (key value rest : List ℕ) (t : State) → All (IsInRange 97 122) key → Lacks 10 value → entered s key value ≡ Ok t → line_answer s (line_written key value rest) ≡ Ok (t, rest)
+pub line_forth : (s : State) (key value rest : List ℕ) (t : State) → AllByRecursion (IsInRange 97 122) key → Lacks 10 value → entered s key value ≡ Ok t → line_answer s (line_written key value rest) ≡ Ok (t, rest)
 line_forth s key value rest t letters l e =
     let c = cut_between 10 (key ++ (61 ∷ value)) rest (All-append _ key (61 ∷ value) (lacks 10 97 122 key (inl (lit< tt)) letters) (refl, l)) in
     let d = cut_between 61 key value (lacks 61 97 122 key (inl (lit< tt)) letters) in
@@ -156,7 +156,7 @@ ranked_forth n l h = grind (arith, nat_tests)
 rank_forth : (n : ℕ) → 1 ≤ n → n ≤ 3 → rank_answer (decimal n) ≡ Ok n
 rank_forth n l h = ap (λ (r : Result ℕ Cause). next r ranked) (number_forth n (omega arith)) ∙ ranked_forth n l h
 
-matrix_forth : (k : Coordinates) (m : Square) → 1 ≤ m.rank → m.rank ≤ 3 → length m.entries ≡ 9 → All (Writable k) (take (m.rank * m.rank) m.entries) → drop (m.rank * m.rank) m.entries ≡ replicate (9 - m.rank * m.rank) zero_element → matrix_answer k m.rank (elements_written k (take (m.rank * m.rank) m.entries)) ≡ Ok m
+matrix_forth : (k : Coordinates) (m : Square) → 1 ≤ m.rank → m.rank ≤ 3 → length m.entries ≡ 9 → AllByRecursion (Writable k) (take (m.rank * m.rank) m.entries) → drop (m.rank * m.rank) m.entries ≡ replicate (9 - m.rank * m.rank) zero_element → matrix_answer k m.rank (elements_written k (take (m.rank * m.rank) m.entries)) ≡ Ok m
 matrix_forth k m low high nine each zeros =
     let many : m.rank * m.rank ≤ 9 = mul-le-mul high high in
     let some : 1 ≤ m.rank * m.rank = mul-le-mul low low in
@@ -167,7 +167,7 @@ matrix_forth k m low high nine each zeros =
     rw (r', p)
 
 -- line by line
-reading_more : (lines n : ℕ) (s : State) (key value rest : List ℕ) (t : State) (q : Request) → All (IsInRange 97 122) key → Lacks 10 value → entered s key value ≡ Ok t → reading lines (suc n) t rest ≡ Ok q → reading (suc lines) n s (line_written key value rest) ≡ Ok q
+reading_more : (lines n : ℕ) (s : State) (key value rest : List ℕ) (t : State) (q : Request) → AllByRecursion (IsInRange 97 122) key → Lacks 10 value → entered s key value ≡ Ok t → reading lines (suc n) t rest ≡ Ok q → reading (suc lines) n s (line_written key value rest) ≡ Ok q
 reading_more lines n s key value rest t q letters l e r = rw (line_forth s key value rest t letters l e) r
 
 line_length : (key value rest : List ℕ) → length key ≤ 6 → length (line_written key value rest) ≤ 8 + length value + length rest

@@ -2,7 +2,7 @@
 use Rattle.std.proofs.Common.{◌≡◌, ℕ, zero, suc, ◌+◌, ◌-◌, ◌*◌, ◌^◌, ◌<◌, ◌≤◌, true, eqb, List, length, get_or, take, drop, pos, ◌-ℤ◌, IfOk, Ok, Err, Result, sym, refl, ap, ◌∙◌, ⊎_elim, arith, length-take, w64, to_z, of_z}
 use Rattle.std.specs.Str.Parse.{digits_value}
 use Rattle.std.specs.Int.{IsInRange, IsOutOfRange}
-use Rattle.std.specs.Char.{digit_value as digitValue}
+use Rattle.std.specs.Char.{digit_value}
 use Rattle.std.specs.Str.{all_ascii_digits}
 use Rattle.std.proofs.lemmas.Int.Digits.{digits_more, digits_value_more}
 use Rattle.std.proofs.lemmas.Str.Parse.{IsNumeralModel, numerals_by_value, tells_all_ascii_digits, digit_at, digits_value_short}
@@ -16,13 +16,13 @@ use Rattle.text.specs.Values.{digits_answer, number_answer, coordinate_answer, n
 pub own : IsNumeralModel (λ ds. all_ascii_digits ds ≡ true) (digits_value 10)
 own = numerals_by_value _ tells_all_ascii_digits
 
-digit_value : (b : ℕ) → IsInRange 48 57 b → digitValue b ≡ b - 48
-digit_value b h = grind (arith, nat_tests)
+digit_value_lem : (b : ℕ) → IsInRange 48 57 b → digit_value b ≡ b - 48
+digit_value_lem b h = grind (arith, nat_tests)
 
 -- one more digit
 pub one_more : (bs : List ℕ) (i n : ℕ) → i < length bs → IsInRange 48 57 (get_or bs i 0) → all_ascii_digits (take i bs) ≡ true → n ≡ digits_value 10 (take i bs) → (all_ascii_digits (take (i + 1) bs) ≡ true) × (n * 10 + (get_or bs i 0 - 48) ≡ digits_value 10 (take (i + 1) bs))
 one_more bs i n l d a e =
-    let v = digit_value (get_or bs i 0) d in
+    let v = digit_value_lem (get_or bs i 0) d in
     let f = digits_value_more 10 bs i l in
     (own.from _ (digits_more 10 bs i l (own.to _ a) (omega arith)), omega arith)
 

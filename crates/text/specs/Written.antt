@@ -1,7 +1,7 @@
 -- How a request is written, and the law that ties reading to writing.
 use Rattle.std.specs.Prelude.{◌≡◌, ℕ, ◌-◌, ◌*◌, ◌^◌, ◌<◌, ◌≤◌, List, [], ◌∷◌, ◌++◌, length, take, drop, replicate, ℤ, Ok, codes, decimal, unsigned_abs}
 use Rattle.std.specs.Fmt.{signed_decimal}
-use Rattle.std.specs.List.{AllByRecursion as All}
+use Rattle.std.specs.List.{AllByRecursion}
 use Rattle.ring.specs.declared.elements.Element.{Element}
 use Rattle.ring.specs.declared.elements.Coordinates.{Coordinates}
 use Rattle.ring.specs.declared.elements.Coordinates.TheVariants.{One, Two}
@@ -54,7 +54,7 @@ pub record WellFormed (q : Request) : Type 0 where
   pub rank_low : 1 ≤ q.matrix.rank
   pub rank_high : q.matrix.rank ≤ 3
   pub nine : length q.matrix.entries ≡ 9
-  pub entries : All (Writable (coordinates_of q.ring)) (take (size q) q.matrix.entries)
+  pub entries : AllByRecursion (Writable (coordinates_of q.ring)) (take (size q) q.matrix.entries)
   pub zeros : drop (size q) q.matrix.entries ≡ replicate (9 - size q) zero_element
 
 -- reading accepts just what writing gives, and gives it back
