@@ -53,7 +53,7 @@ fn both_nearest(z: Element, n: u64) -> Element
 /// What is left of a without q times b, where it is known to be small.
 fn left_over_of(p: Plane, a: Element, b: Element, q: Element) -> Element
     requires within { (Within reach a) × ((Within reach b) × (Within (2 ^ 62) q)) }
-    requires y_bound { (unsigned_abs (left_over p (pair a.x a.y) (pair b.x b.y) (pair q.x q.y)).re ≤ 2 ^ 62) × (unsigned_abs (left_over p (pair a.x a.y) (pair b.x b.y) (pair q.x q.y)).im ≤ 2 ^ 62) }
+    requires little_left { (unsigned_abs (left_over p (pair a.x a.y) (pair b.x b.y) (pair q.x q.y)).re ≤ 2 ^ 62) × (unsigned_abs (left_over p (pair a.x a.y) (pair b.x b.y) (pair q.x q.y)).im ≤ 2 ^ 62) }
     ensures { pair result.x result.y ≡ left_over p (pair a.x a.y) (pair b.x b.y) (pair q.x q.y) }
 {
     let square = wide_times(q.y, b.y);
@@ -68,7 +68,7 @@ fn left_over_of(p: Plane, a: Element, b: Element, q: Element) -> Element
 /// a without (x, y), where little is left.
 fn less(a: Element, x: i128, y: i128) -> Element
     requires within { (Within reach a) × ((unsigned_abs x ≤ 2 ^ 125) × (unsigned_abs y ≤ 3 * 2 ^ 124)) }
-    requires x_bound { (unsigned_abs (a.x -ℤ x) ≤ 2 ^ 62) × (unsigned_abs (a.y -ℤ y) ≤ 2 ^ 62) }
+    requires little_left { (unsigned_abs (a.x -ℤ x) ≤ 2 ^ 62) × (unsigned_abs (a.y -ℤ y) ≤ 2 ^ 62) }
     ensures { pair result.x result.y ≡ pair (a.x -ℤ x) (a.y -ℤ y) }
 {
     Element {

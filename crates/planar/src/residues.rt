@@ -100,7 +100,7 @@ pub(super) fn basis_of(p: Plane, m: Element, norm: u64) -> Basis
 /// The residue that is congruent to an element.
 pub(super) fn residue_in(b: Basis, a: Element) -> Element
     requires within { (Within reach a) × (unsigned_abs b.step ≤ 2 ^ 62) }
-    requires content_nonzero { (0 < b.content) × ((b.content ≤ 2 ^ 30) × ((0 < b.width) × (b.width ≤ 3 * 2 ^ 60))) }
+    requires sizes { (0 < b.content) × ((b.content ≤ 2 ^ 30) × ((0 < b.width) × (b.width ≤ 3 * 2 ^ 60))) }
     ensures x { result.x ≡ int_rem_euclid (a.x -ℤ int_div_euclid a.y (pos b.content) *ℤ b.step) (pos b.width) }
     ensures y { result.y ≡ int_rem_euclid a.y (pos b.content) }
 {

@@ -9,14 +9,14 @@ pub less-requires : goal.less-requires
 less-requires c =
     let same = square_left c.args.p c.args.a.x c.args.a.y c.args.b.x c.args.b.y c.args.q.x c.args.q.y (to_z w128 (of_z w128 c.wide_minus-x.result)) (to_z w128 (of_z w128 c.wide_plus-cross.result)) c.in-Square.is (grind (arith, to_z-of_z)) (grind (arith, to_z-of_z)) in record {
       within = (c.requires.within.0, (grind (arith, to_z-of_z), grind (arith, to_z-of_z)));
-      x_bound = (subst (λ (v : ℤ). nat_abs v ≤ 2 ^ 62) (sym (ap (λ (z : Quad ℤ). z.re) same)) c.requires.y_bound.0, subst (λ (v : ℤ). nat_abs v ≤ 2 ^ 62) (sym (ap (λ (z : Quad ℤ). z.im) same)) c.requires.y_bound.1);
+      little_left = (subst (λ (v : ℤ). nat_abs v ≤ 2 ^ 62) (sym (ap (λ (z : Quad ℤ). z.re) same)) c.requires.little_left.0, subst (λ (v : ℤ). nat_abs v ≤ 2 ^ 62) (sym (ap (λ (z : Quad ℤ). z.im) same)) c.requires.little_left.1);
     }
 
 pub less-requires-in-Hexagonal : goal.less-requires-in-Hexagonal
 less-requires-in-Hexagonal c =
     let same = hexagonal_left c.args.p c.args.a.x c.args.a.y c.args.b.x c.args.b.y c.args.q.x c.args.q.y (to_z w128 (of_z w128 c.wide_minus-x.result)) (to_z w128 (of_z w128 c.wide_minus.result)) c.in-Hexagonal.is (grind (arith, to_z-of_z)) (grind (arith, to_z-of_z)) in record {
       within = (c.requires.within.0, (grind (arith, to_z-of_z), grind (arith, to_z-of_z)));
-      x_bound = (subst (λ (v : ℤ). nat_abs v ≤ 2 ^ 62) (sym (ap (λ (z : Quad ℤ). z.re) same)) c.requires.y_bound.0, subst (λ (v : ℤ). nat_abs v ≤ 2 ^ 62) (sym (ap (λ (z : Quad ℤ). z.im) same)) c.requires.y_bound.1);
+      little_left = (subst (λ (v : ℤ). nat_abs v ≤ 2 ^ 62) (sym (ap (λ (z : Quad ℤ). z.re) same)) c.requires.little_left.0, subst (λ (v : ℤ). nat_abs v ≤ 2 ^ 62) (sym (ap (λ (z : Quad ℤ). z.im) same)) c.requires.little_left.1);
     }
 
 pub returns-in-Square : goal.returns-in-Square

@@ -14,7 +14,7 @@ left_over_of-remainder-requires c =
     let few = c.requires.norm_value.1.1 in
     let n = c.both_nearest-quotient.ensures in record {
       within = (c.requires.within.0, (c.requires.within.1, n.bound));
-      y_bound = (left_re c.args.p a b q z c.args.norm size some few c.over_of.ensures.value n.x n.y, left_im c.args.p a b q z c.args.norm size some few c.over_of.ensures.value n.x n.y);
+      little_left = (left_re c.args.p a b q z c.args.norm size some few c.over_of.ensures.value n.x n.y, left_im c.args.p a b q z c.args.norm size some few c.over_of.ensures.value n.x n.y);
     }
 
 pub returns : goal.returns
