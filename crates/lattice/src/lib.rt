@@ -6,43 +6,31 @@
 ghost use Rattle.lattice.specs.Statements.{DeterminantsFill, FormsAreUnique, FormsExist, IndexIsNorm, SitesAreCounted, VectorsReduce};
 
 /// Every sublattice of full rank that columns generate has a Hermite form.
-pub fn forms_exist<C>() -> u8
+pub fn forms_exist<C>()
     ensures { FormsExist C }
-{
-    0
-}
+{}
 
 /// In ranks 1 to 3, columns whose determinant is not 0 generate a sublattice of full rank.
-pub fn determinants_fill<C>() -> u8
+pub fn determinants_fill<C>()
     ensures { DeterminantsFill C }
-{
-    0
-}
+{}
 
 /// Two Hermite forms with the same vectors are equal.
-pub fn forms_are_unique<C>() -> u8
+pub fn forms_are_unique<C>()
     ensures { FormsAreUnique C }
-{
-    0
-}
+{}
 
 /// In ranks 1 to 3, the index of the Hermite form of a matrix is the norm of its determinant.
-pub fn index_is_norm<C>() -> u8
+pub fn index_is_norm<C>()
     ensures { IndexIsNorm C }
-{
-    0
-}
+{}
 
 /// Modulo a Hermite form every vector is congruent to exactly one reduced vector.
-pub fn vectors_reduce<C>() -> u8
+pub fn vectors_reduce<C>()
     ensures { VectorsReduce C }
-{
-    0
-}
+{}
 
 /// The reduced vectors modulo a Hermite form are as many as its index.
-pub fn sites_are_counted<C>() -> u8
+pub fn sites_are_counted<C>()
     ensures { SitesAreCounted C }
-{
-    0
-}
+{}

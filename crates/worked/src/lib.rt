@@ -4,8 +4,6 @@
 ghost use Rattle.worked.specs.Cases.{WorkedCases};
 
 /// Every worked case follows from the definitions.
-pub fn worked_cases_stand() -> u8
+pub fn worked_cases_stand()
     ensures { WorkedCases }
-{
-    0
-}
+{}
