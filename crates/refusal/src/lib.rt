@@ -13,51 +13,51 @@ use std::fmt;
 #[derive(Clone, Copy, PartialEq, Eq, Debug)]
 pub enum Cause {
     /// A line that lacks its key, its `=` or its end, that is missing, or that is one too many.
-    Line,
+    Line = 1,
     /// A value that is malformed, out of range or against a rule of the text.
-    Value,
+    Value = 2,
     /// A closing line whose number is wrong.
-    Totals,
+    Totals = 3,
     /// A rank, a count or a length that a table of operations cannot have.
-    TableShape,
+    TableShape = 4,
     /// An operation with a coordinate out of its limits.
-    OperationCoordinate,
+    OperationCoordinate = 5,
     /// An operation whose determinant is no unit.
-    OperationDeterminant,
+    OperationDeterminant = 6,
     /// An operation equal to an earlier one.
-    OperationRepeated,
+    OperationRepeated = 7,
     /// A table without the identity.
-    NoIdentity,
+    NoIdentity = 8,
     /// A table without the product of two of its operations.
-    ProductMissing,
+    ProductMissing = 9,
     /// An index or a norm that is not 1 to 64.
-    Index,
+    Index = 10,
     /// A number of colours that is not allowed.
-    Colours,
+    Colours = 11,
     /// More words than the catalogue counts.
-    WordCount,
+    WordCount = 12,
     /// A call that needs an open catalogue.
-    NothingOpen,
+    NothingOpen = 13,
     /// A position outside the list.
-    Position,
+    Position = 14,
     /// A buffer that is too short.
-    ShortBuffer,
+    ShortBuffer = 15,
     /// A heading or a mark out of its ranges.
-    Heading,
+    Heading = 16,
     /// A card that no reader would accept.
-    Card,
+    Card = 17,
     /// A rank that is not 1 to 3.
-    Rank,
+    Rank = 18,
     /// A coordinate out of its limits.
-    Coordinate,
+    Coordinate = 19,
     /// A divisor that is 0, or a modulus that is 0 or not canonical.
-    Modulus,
+    Modulus = 20,
     /// A matrix of determinant 0.
-    Singular,
+    Singular = 21,
     /// A number, an element, a row or a column outside its list, or an index above 64.
-    Outside,
+    Outside = 22,
     /// Want of memory: the machine's refusal, and none of the list.
-    Memory,
+    Memory = 0,
 }
 
 impl Cause {
@@ -65,31 +65,7 @@ impl Cause {
     pub fn number(self) -> u8
         ensures { result ≡ number self }
     {
-        match self {
-            Cause::Line => 1,
-            Cause::Value => 2,
-            Cause::Totals => 3,
-            Cause::TableShape => 4,
-            Cause::OperationCoordinate => 5,
-            Cause::OperationDeterminant => 6,
-            Cause::OperationRepeated => 7,
-            Cause::NoIdentity => 8,
-            Cause::ProductMissing => 9,
-            Cause::Index => 10,
-            Cause::Colours => 11,
-            Cause::WordCount => 12,
-            Cause::NothingOpen => 13,
-            Cause::Position => 14,
-            Cause::ShortBuffer => 15,
-            Cause::Heading => 16,
-            Cause::Card => 17,
-            Cause::Rank => 18,
-            Cause::Coordinate => 19,
-            Cause::Modulus => 20,
-            Cause::Singular => 21,
-            Cause::Outside => 22,
-            Cause::Memory => 0,
-        }
+        self as u8
     }
 }
 
@@ -97,6 +73,7 @@ impl Cause {
 #[derive(Clone, Copy, PartialEq, Eq, Debug)]
 pub struct Refusal {
     pub cause: Cause,
+    // A number in which 0 stands for none, and no `Option`: so it is written, in every report and archive.
     pub place: u64,
 }
 
@@ -105,6 +82,15 @@ impl Refusal {
     pub fn of(cause: Cause) -> Refusal
         ensures { result ≡ refused cause 0 }
     {
+        Refusal::from(cause)
+    }
+}
+
+/// A cause that has no place.
+impl From<Cause> for Refusal {
+    ghost from_gives = { λ cause r. r ≡ refused cause 0 };
+
+    fn from(cause: Cause) -> Refusal {
         Refusal { cause, place: 0 }
     }
 }
@@ -113,7 +99,7 @@ impl From<AllocError> for Refusal {
     ghost from_gives = { λ _ r. r ≡ refused Memory 0 };
 
     fn from(_: AllocError) -> Refusal {
-        Refusal::of(Cause::Memory)
+        Refusal::from(Cause::Memory)
     }
 }
 
