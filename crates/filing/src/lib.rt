@@ -3,8 +3,8 @@
 
 ghost use Rattle.filing.specs.Filed.{FiledAnswer, Placed};
 ghost use Rattle.filing.specs.Report.{report};
-ghost use Rattle.std.specs.Prelude.{◌≡◌, Some};
-ghost use Rattle.text.specs.Written.{element_written, ring_written};
+ghost use Rattle.std.specs.Prelude.{Some};
+ghost use Rattle.text.specs.Written.{element_written};
 
 use eisenstein::Eisenstein;
 use gaussian::Gaussian;
@@ -13,22 +13,13 @@ use location::{Location, locate_one};
 use refusal::Refusal;
 use ring::{Coordinates, Element, Ring};
 use std::fmt;
-use text::RingName;
+use text::{Matrix, RingName};
 
 /// A lattice over a ring, and where it stands.
 #[derive(Clone, Copy)]
 pub struct Filed {
     pub ring: RingName,
     pub location: Location,
-}
-
-/// What a request comes to.
-#[derive(Clone, Copy)]
-pub enum Answer {
-    /// The lattice has its place.
-    Filed(Filed),
-    /// The matrix is well formed, but its rank has no Hermite forms here yet.
-    LaterRank,
 }
 
 /// The place of the multiples of `e` in the ring of that name.
@@ -42,30 +33,19 @@ pub fn place(ring: RingName, e: Element) -> Result<Location, Refusal>
     }
 }
 
-/// Reads a request and files its matrix.
-pub fn file(request: &[u8]) -> Result<Answer, Refusal>
+/// Reads a request and files its matrix; `None` for a rank that has no Hermite forms here yet.
+pub fn file(request: &[u8]) -> Result<Option<Filed>, Refusal>
     ensures { FiledAnswer request.now result }
 {
     let read = text::read(request)?;
-    if read.matrix.rank != 1 {
-        return Ok(Answer::LaterRank);
-    }
-    let location = place(read.ring, read.matrix.entries[0])?;
-    Ok(Answer::Filed(Filed {
+    let Matrix::One(entries) = read.matrix else {
+        return Ok(None);
+    };
+    let location = place(read.ring, entries[0])?;
+    Ok(Some(Filed {
         ring: read.ring,
         location,
     }))
-}
-
-/// The letter of a ring in texts.
-fn letter(ring: RingName) -> &'static str
-    ensures { result.now ≡ ring_written ring }
-{
-    match ring {
-        RingName::Integers => "Z",
-        RingName::Gaussian => "G",
-        RingName::Eisenstein => "E",
-    }
 }
 
 /// An element as texts write it.
@@ -93,7 +73,7 @@ impl fmt::Display for Filed {
     ghost output = { λ f. Some (report f) };
 
     fn fmt<W: fmt::Write>(&self, f: &mut fmt::Formatter<W>) -> fmt::Result {
-        let ring = letter(self.ring);
+        let ring = self.ring;
         let index = self.location.index;
         let sublattices = self.location.sublattices;
         let lattice = self.location.lattice;

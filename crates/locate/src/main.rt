@@ -2,7 +2,7 @@
 #![tactic(auto)]
 
 use anyhow::anyhow;
-use filing::{Answer, file};
+use filing::file;
 use std::io::Read;
 
 /// One byte more than the longest text, so that a longer one is seen to be too long.
@@ -12,7 +12,7 @@ fn main(rt: HostRuntime) -> anyhow::Result<()> {
     let mut text = Vec::new(rt.alloc());
     rt.stdin().take(ENOUGH).read_to_end(&mut text)?;
     let answer = file(text.as_slice());
-    let Ok(Answer::Filed(filed)) = answer else {
+    let Ok(Some(filed)) = answer else {
         match answer {
             Err(refusal) => println!(rt; "{refusal}")?,
             Ok(_) => eprintln!(rt;

@@ -1,15 +1,14 @@
 -- What is read was written.
-use Rattle.std.proofs.Common.{◌≡◌, ℕ, zero, suc, ◌-◌, ◌*◌, ◌^◌, ◌<◌, ◌≤◌, Bool, true, false, cond, ◌&&◌, eqb, leb, List, [], ◌∷◌, ◌++◌, length, get_or, take, drop, replicate, ℤ, pos, negsuc, Some, None, Ok, Err, codes, decimal, Option, Result, sym, refl, ap, ◌∙◌, subst, ap₂, mul-le-mul, arith, lit<, length-append}
-use lib.ListN.{length-replicate}
+use Rattle.std.proofs.Common.{◌≡◌, ℕ, zero, suc, ◌^◌, ◌<◌, Bool, true, false, cond, ◌&&◌, eqb, leb, List, [], ◌∷◌, ◌++◌, length, get_or, drop, ℤ, pos, negsuc, Some, None, Ok, Err, codes, decimal, Option, Result, sym, refl, ap, ◌∙◌, subst, ap₂, arith, lit<}
 use Rattle.std.specs.Fmt.{signed_decimal}
 use Rattle.std.specs.List.{AllByRecursion}
 use Rattle.std.specs.Str.{all_ascii_digits}
 use Rattle.std.specs.Str.Parse.{digits_value as value}
 use Rattle.std.proofs.lemmas.Fmt.{decimal-digits_value}
 use Rattle.std.proofs.lemmas.Slice.Eq.{HasBytesAt, text_from_reads}
-use Rattle.std.proofs.lemmas.List.{drop_at, take_at}
 use Rattle.std.proofs.lemmas.Str.Parse.{digits_value_short}
-use Rattle.std.proofs.lemmas.Bool.{and_parts, eqb-true, leb-true, both_ways, not-true, eq-eqb}
+use Rattle.std.proofs.lemmas.Bool.Decides.{nat_tests}
+use Rattle.std.proofs.lemmas.Bool.{and_parts, eqb-true, leb-true}
 use Rattle.refusal.specs.Numbers.{refused}
 use Rattle.refusal.specs.declared.Cause.{Cause}
 use Rattle.refusal.specs.declared.Cause.TheVariants.{Line, Value}
@@ -18,6 +17,8 @@ use Rattle.ring.specs.declared.elements.Coordinates.{Coordinates}
 use Rattle.ring.specs.declared.elements.Coordinates.TheVariants.{One, Two}
 use Rattle.text.specs.declared.request.RingName.{RingName}
 use Rattle.text.specs.declared.request.RingName.TheVariants.{Integers, Gaussian, Eisenstein}
+use Rattle.text.specs.declared.request.Rank.{Rank as Order}
+use Rattle.text.specs.declared.request.Rank.TheVariants.{One as RankOne, Two as RankTwo, Three as RankThree}
 use Rattle.text.specs.declared.request.Matrix.{Matrix as Square}
 use Rattle.text.specs.declared.request.Request.{Request}
 use Rattle.text.specs.declared.state.State.{State}
@@ -25,33 +26,25 @@ use Rattle.text.specs.declared.state.State.TheVariants.{Ring, Rank, Matrix, Done
 use Rattle.text.specs.Parts.{front, back}
 use Rattle.text.specs.Keys.{reads, spells}
 use Rattle.text.specs.Lines.{finished, line_answer, placed, read_answer, reading}
-use Rattle.text.specs.Requests.{coordinates_of, elements, entries_answer, lettered, matrix_answer, padded, rank_answer, ranked, ring_answer, zero_element}
+use Rattle.text.specs.Requests.{coordinates_of, elements, entries_of, lettered, matrix_answer, matrix_of, number_of, rank_answer, rank_of, ranked, ring_answer, size}
 use Rattle.text.specs.Values.{begun, coordinate_answer, digits_answer, element_answer, natural, negated, next, number_answer}
 use Rattle.text.specs.Written.{Short, WellFormed, Writable, element_written, elements_written, line_written, ring_written, written}
-use Rattle.text.proofs.Chains.{Taken, cond_ok, given_ok, line_ok, next_ok, no_fault, ranked_ok, same_ok}
+use Rattle.text.proofs.Chains.{Taken, cond_ok, given_ok, line_ok, next_ok, same_ok}
 use Rattle.text.proofs.Numerals.{own}
 
 -- a text is its two parts with the mark between them
 pub joined_at : (m : ℕ) (bs rest : List ℕ) → back m bs ≡ Some rest → bs ≡ front m bs ++ (m ∷ rest)
-joined_at m [] rest h = absurd (let z : ◌≡◌ {A = ℕ} 0 1 = cc in omega arith)
-joined_at m (b ∷ bs) rest h = go (joined_at m bs rest) (eqb m b) refl h
-  where
-    go : (back m bs ≡ Some rest → bs ≡ front m bs ++ (m ∷ rest)) → (t : Bool) → eqb m b ≡ t → cond t (Some bs) (back m bs) ≡ Some rest → (b ∷ bs) ≡ front m (b ∷ bs) ++ (m ∷ rest)
-    go ih true e q = let x = eqb-true m b e in let y : bs ≡ rest = cc in rw e (ap₂ ◌∷◌ (sym x) y)
-    go ih false e q = rw e (ap (λ (t : List ℕ). b ∷ t) (ih q))
+joined_at m [] rest h = cc
+joined_at m (b ∷ bs) rest h = grind (arith, nat_tests, joined_at m bs rest)
 
 pub all_front : (m : ℕ) (bs : List ℕ) → back m bs ≡ None → bs ≡ front m bs
 all_front m [] h = refl
-all_front m (b ∷ bs) h = go (all_front m bs) (eqb m b) refl h
-  where
-    go : (back m bs ≡ None → bs ≡ front m bs) → (t : Bool) → eqb m b ≡ t → cond t (Some bs) (back m bs) ≡ None → (b ∷ bs) ≡ front m (b ∷ bs)
-    go ih true e q = absurd (let z : ◌≡◌ {A = ℕ} 0 1 = cc in omega arith)
-    go ih false e q = rw e (ap (λ (t : List ℕ). b ∷ t) (ih q))
+all_front m (b ∷ bs) h = grind (arith, nat_tests, all_front m bs)
 
 begun_tells : (bs : List ℕ) → begun bs ≡ true → (0 < length bs) × (get_or bs 0 0 ≡ 48 → length bs ≡ 1)
-begun_tells [] h = absurd (let z : ◌≡◌ {A = ℕ} 0 1 = cc in omega arith)
+begun_tells [] h = cc
 begun_tells (b ∷ []) h = (omega arith, λ e. refl)
-begun_tells (b ∷ c ∷ bs) h = (omega arith, λ e. absurd (both_ways (eqb b 48) (not-true (eqb b 48) h) (eq-eqb b 48 e)))
+begun_tells (b ∷ c ∷ bs) h = (omega arith, λ e. grind (arith, nat_tests))
 
 pub number_back : (bs : List ℕ) (n : ℕ) → number_answer bs ≡ Ok n → (bs ≡ decimal n) × (n < 10 ^ 15)
 number_back bs n h =
@@ -68,7 +61,7 @@ first_byte [] h = absurd (omega arith)
 first_byte (b ∷ bs) h = ap (λ (c : ℕ). c ∷ bs) h
 
 negated_back : (n : ℕ) (z : ℤ) → negated n ≡ Ok z → n < 10 ^ 15 → (45 ∷ decimal n ≡ signed_decimal z) × Short z
-negated_back zero z h l = absurd (no_fault Value z h)
+negated_back zero z h l = cc
 negated_back (suc n) z h l = let e = same_ok (negsuc n) z h in (ap signed_decimal e, subst Short e l)
 
 pub coordinate_back : (bs : List ℕ) (z : ℤ) → coordinate_answer bs ≡ Ok z → (bs ≡ signed_decimal z) × Short z
@@ -110,10 +103,10 @@ pub record Listing (k : Coordinates) (n : ℕ) (o : Option (List ℕ)) (es : Lis
 
 none_read : (k : Coordinates) (n : ℕ) (es : List Element) → elements k n None ≡ Ok es → es ≡ []
 none_read k zero es h = sym (same_ok [] es h)
-none_read k (suc n) es h = absurd (no_fault Value es h)
+none_read k (suc n) es h = cc
 
 some_read : (k : Coordinates) (n : ℕ) (bs : List ℕ) (es : List Element) → elements k n (Some bs) ≡ Ok es → (e : Element) × (fs : List Element) × (es ≡ e ∷ fs)
-some_read k zero bs es h = absurd (no_fault Value es h)
+some_read k zero bs es h = cc
 some_read k (suc n) bs es h =
     let p = next_ok (element_answer k (front 44 bs)) _ es h in
     let q = next_ok (elements k n (back 44 bs)) _ es p.then in
@@ -130,9 +123,9 @@ joined_more k bs e n es f (Some rest) b t r =
 pub elements_back : (k : Coordinates) (n : ℕ) (o : Option (List ℕ)) (es : List Element) → elements k n o ≡ Ok es → Listing k n o es
 elements_back k zero None es h =
     let w = same_ok [] es h in
-    subst (Listing k 0 None) w (record { count = refl; each = tt; bytes = λ bs e. absurd (let z : ◌≡◌ {A = ℕ} 0 1 = cc in omega arith) })
-elements_back k zero (Some bs) es h = absurd (no_fault Value es h)
-elements_back k (suc n) None es h = absurd (no_fault Value es h)
+    subst (Listing k 0 None) w (record { count = refl; each = tt; bytes = λ bs e. cc })
+elements_back k zero (Some bs) es h = cc
+elements_back k (suc n) None es h = cc
 elements_back k (suc n) (Some bs) es h =
     let p = next_ok (element_answer k (front 44 bs)) _ es h in
     let q = next_ok (elements k n (back 44 bs)) _ es p.then in
@@ -155,58 +148,43 @@ reads_at bs i (c ∷ name) h = let p = and_parts (eqb (get_or bs i 0) c) (reads 
 pub key_back : (bs name : List ℕ) → spells bs name ≡ true → bs ≡ name
 key_back bs name h = let p = and_parts (eqb (length bs) (length name)) (reads bs 0 name) h in text_from_reads bs name (eqb-true _ _ p.0) (reads_at bs 0 name p.1)
 
+lettered_back : (b : ℕ) (r : RingName) → lettered b ≡ Ok r → b ∷ [] ≡ ring_written r
+lettered_back b Integers h = let e : b ≡ 90 = grind (arith, nat_tests) in rw e
+lettered_back b Gaussian h = let e : b ≡ 71 = grind (arith, nat_tests) in rw e
+lettered_back b Eisenstein h = let e : b ≡ 69 = grind (arith, nat_tests) in rw e
+
 pub ring_back : (bs : List ℕ) (r : RingName) → ring_answer bs ≡ Ok r → bs ≡ ring_written r
-ring_back bs r h =
-    let a = cond_ok (eqb (length bs) 1) (lettered (get_or bs 0 0)) Value r h in
-    one bs (eqb-true _ 1 a.test) a.then
-  where
-    is : (b c : ℕ) (s : RingName) → eqb b c ≡ true → ◌≡◌ {A = Result RingName Cause} (Ok s) (Ok r) → c ∷ [] ≡ ring_written s → b ∷ [] ≡ ring_written r
-    is b c s e q w = ap (λ (d : ℕ). d ∷ []) (eqb-true b c e) ∙ w ∙ ap ring_written (same_ok s r q)
+ring_back [] r h = cc
+ring_back (b ∷ []) r h = lettered_back b r h
+ring_back (b ∷ c ∷ bs) r h = grind (arith, nat_tests)
 
-    go : (b : ℕ) (x : Bool) → eqb b 90 ≡ x → (y : Bool) → eqb b 71 ≡ y → (z : Bool) → eqb b 69 ≡ z → cond x (Ok Integers) (cond y (Ok Gaussian) (cond z (Ok Eisenstein) (Err Value))) ≡ Ok r → b ∷ [] ≡ ring_written r
-    go b true e y f z g q = is b 90 Integers e q refl
-    go b false e true f z g q = is b 71 Gaussian f q refl
-    go b false e false f true g q = is b 69 Eisenstein g q refl
-    go b false e false f false g q = absurd (no_fault Value r q)
+-- a rank that is read is the number
+ranked_back : (n : ℕ) (r : Order) → ranked n ≡ Ok r → n ≡ number_of r
+ranked_back n RankOne h = grind (arith, nat_tests)
+ranked_back n RankTwo h = grind (arith, nat_tests)
+ranked_back n RankThree h = grind (arith, nat_tests)
 
-    one : (bs : List ℕ) → length bs ≡ 1 → lettered (get_or bs 0 0) ≡ Ok r → bs ≡ ring_written r
-    one [] l q = absurd (omega arith)
-    one (b ∷ []) l q = go b _ refl _ refl _ refl q
-    one (b ∷ c ∷ bs) l q = absurd (omega arith)
-
-pub rank_back : (bs : List ℕ) (n : ℕ) → rank_answer bs ≡ Ok n → (bs ≡ decimal n) × (1 ≤ n) × (n ≤ 3)
-rank_back bs n h =
-    let p = next_ok (number_answer bs) ranked n h in
-    let w = ranked_ok p.value n p.then in
-    ((number_back bs p.value p.first).0 ∙ ap decimal (sym w.0), w.1, w.2)
+pub rank_back : (bs : List ℕ) (r : Order) → rank_answer bs ≡ Ok r → bs ≡ decimal (number_of r)
+rank_back bs r h =
+    let p = next_ok (number_answer bs) ranked r h in
+    (number_back bs p.value p.first).0 ∙ ap decimal (ranked_back p.value r p.then)
 
 -- a matrix as it stood
-pub record Laid (k : Coordinates) (n : ℕ) (bs : List ℕ) (m : Square) : Type 0 where
-  pub rank : m.rank ≡ n
-  pub bytes : bs ≡ elements_written k (take (n * n) m.entries)
-  pub nine : length m.entries ≡ 9
-  pub each : AllByRecursion (Writable k) (take (n * n) m.entries)
-  pub zeros : drop (n * n) m.entries ≡ replicate (9 - n * n) zero_element
+pub record Laid (k : Coordinates) (rank : Order) (bs : List ℕ) (m : Square) : Type 0 where
+  pub rank_kept : rank_of m ≡ rank
+  pub bytes : bs ≡ elements_written k (entries_of m)
+  pub square : length (entries_of m) ≡ size rank
+  pub each : AllByRecursion (Writable k) (entries_of m)
 
-pub matrix_back : (k : Coordinates) (n : ℕ) (bs : List ℕ) (m : Square) → n * n ≤ 9 → matrix_answer k n bs ≡ Ok m → Laid k n bs m
-matrix_back k n bs m l h =
-    let p = next_ok (entries_answer k (n * n) bs) _ m h in
-    let q = next_ok (elements k (n * n) (Some bs)) _ p.value p.first in
-    let r = elements_back k (n * n) (Some bs) q.value q.first in
-    let e = same_ok _ p.value q.then in
-    subst (Laid k n bs) (same_ok _ m p.then) (subst (λ (es : List Element). Laid k n bs (record { rank = n; entries = es })) e (laid q.value r))
-  where
-    laid : (es : List Element) → Listing k (n * n) (Some bs) es → Laid k n bs (record { rank = n; entries = padded es })
-    laid es r =
-        let c = r.count in
-        let t = take_at es (replicate (9 - length es) zero_element) (n * n) c in
-        record {
-          rank = refl;
-          bytes = rw t (r.bytes bs refl);
-          nine = length-append es _ ∙ rw (length-replicate, c) (omega arith);
-          each = rw t r.each;
-          zeros = drop_at es _ (n * n) c ∙ ap (λ (j : ℕ). replicate (9 - j) zero_element) c;
-        }
+laid : (k : Coordinates) (rank : Order) (bs : List ℕ) (es : List Element) → Listing k (size rank) (Some bs) es → Laid k rank bs (matrix_of rank es)
+laid k RankOne bs es r = record { rank_kept = refl; bytes = r.bytes bs refl; square = r.count; each = r.each }
+laid k RankTwo bs es r = record { rank_kept = refl; bytes = r.bytes bs refl; square = r.count; each = r.each }
+laid k RankThree bs es r = record { rank_kept = refl; bytes = r.bytes bs refl; square = r.count; each = r.each }
+
+pub matrix_back : (k : Coordinates) (rank : Order) (bs : List ℕ) (m : Square) → matrix_answer k rank bs ≡ Ok m → Laid k rank bs m
+matrix_back k rank bs m h =
+    let p = next_ok (elements k (size rank) (Some bs)) _ m h in
+    subst (Laid k rank bs) (same_ok _ m p.then) (laid k rank bs p.value (elements_back k (size rank) (Some bs) p.value p.first))
 
 -- a line as it stood
 pub line_back : (s : State) (text : List ℕ) (t : State) (rest : List ℕ) (k : Taken s text t rest) (key : List ℕ) → spells (front 61 (front 10 text)) key ≡ true → text ≡ line_written key k.value rest
@@ -216,7 +194,7 @@ line_back s text t rest k key e =
 
 placed_ok : {X : Type 0} (n : ℕ) (r : Result X Cause) (x : X) → placed n r ≡ Ok x → r ≡ Ok x
 placed_ok n (Ok y) x h = ap Ok (same_ok y x h)
-placed_ok n (Err c) x h = absurd (no_fault (refused c n) x h)
+placed_ok n (Err c) x h = cc
 
 -- the three lines as they stood
 pub record RingLine (text : List ℕ) (t : State) (rest : List ℕ) : Type 0 where
@@ -225,13 +203,11 @@ pub record RingLine (text : List ℕ) (t : State) (rest : List ℕ) : Type 0 whe
   pub bytes : text ≡ line_written (codes "ring") (ring_written ring) rest
 
 pub record RankLine (ring : RingName) (text : List ℕ) (t : State) (rest : List ℕ) : Type 0 where
-  pub rank : ℕ
+  pub rank : Order
   pub is : t ≡ Matrix ring rank
-  pub bytes : text ≡ line_written (codes "rank") (decimal rank) rest
-  pub low : 1 ≤ rank
-  pub high : rank ≤ 3
+  pub bytes : text ≡ line_written (codes "rank") (decimal (number_of rank)) rest
 
-pub record MatrixLine (ring : RingName) (rank : ℕ) (text : List ℕ) (t : State) (rest : List ℕ) : Type 0 where
+pub record MatrixLine (ring : RingName) (rank : Order) (text : List ℕ) (t : State) (rest : List ℕ) : Type 0 where
   pub matrix : Square
   pub is : t ≡ Done (record { ring = ring; matrix = matrix })
   pub value : List ℕ
@@ -254,17 +230,14 @@ rank_line ring text t rest h =
     let k = line_ok (Rank ring) text t rest h in
     let a = cond_ok (spells (front 61 (front 10 text)) (codes "rank")) _ Line t k.says in
     let p = next_ok (rank_answer k.value) _ t a.then in
-    let r = rank_back k.value p.value p.first in
     record {
       rank = p.value;
       is = sym (same_ok _ t p.then);
-      bytes = line_back (Rank ring) text t rest k (codes "rank") a.test ∙ ap (λ (u : List ℕ). line_written (codes "rank") u rest) r.0;
-      low = r.1;
-      high = r.2;
+      bytes = line_back (Rank ring) text t rest k (codes "rank") a.test ∙ ap (λ (u : List ℕ). line_written (codes "rank") u rest) (rank_back k.value p.value p.first);
     }
 
-matrix_line : (ring : RingName) (rank : ℕ) (text : List ℕ) (t : State) (rest : List ℕ) → rank * rank ≤ 9 → line_answer (Matrix ring rank) text ≡ Ok (t, rest) → MatrixLine ring rank text t rest
-matrix_line ring rank text t rest l h =
+matrix_line : (ring : RingName) (rank : Order) (text : List ℕ) (t : State) (rest : List ℕ) → line_answer (Matrix ring rank) text ≡ Ok (t, rest) → MatrixLine ring rank text t rest
+matrix_line ring rank text t rest h =
     let k = line_ok (Matrix ring rank) text t rest h in
     let a = cond_ok (spells (front 61 (front 10 text)) (codes "matrix")) _ Line t k.says in
     let p = next_ok (matrix_answer (coordinates_of ring) rank k.value) _ t a.then in
@@ -273,34 +246,32 @@ matrix_line ring rank text t rest l h =
       is = sym (same_ok _ t p.then);
       value = k.value;
       bytes = line_back (Matrix ring rank) text t rest k (codes "matrix") a.test;
-      laid = matrix_back (coordinates_of ring) rank k.value p.value l p.first;
+      laid = matrix_back (coordinates_of ring) rank k.value p.value p.first;
     }
 
 finished_back : (n : ℕ) (q p : Request) (text : List ℕ) → finished n (Done q) text ≡ Ok p → (text ≡ []) × (q ≡ p)
 finished_back n q p [] h = (refl, same_ok q p h)
-finished_back n q p (b ∷ bs) h = absurd (no_fault (refused Line n) p h)
+finished_back n q p (b ∷ bs) h = cc
 
 -- what is left once the ring is known, and once the rank is
-record FromMatrix (ring : RingName) (rank : ℕ) (text : List ℕ) (q : Request) : Type 0 where
+record FromMatrix (ring : RingName) (rank : Order) (text : List ℕ) (q : Request) : Type 0 where
   matrix : Square
   value : List ℕ
   request : record { ring = ring; matrix = matrix } ≡ q
   bytes : text ≡ line_written (codes "matrix") value []
   laid : Laid (coordinates_of ring) rank value matrix
 
-from_matrix : (ring : RingName) (rank : ℕ) (text : List ℕ) (q : Request) → rank * rank ≤ 9 → reading 1 3 (Matrix ring rank) text ≡ Ok q → FromMatrix ring rank text q
-from_matrix ring rank text q l h =
+from_matrix : (ring : RingName) (rank : Order) (text : List ℕ) (q : Request) → reading 1 3 (Matrix ring rank) text ≡ Ok q → FromMatrix ring rank text q
+from_matrix ring rank text q h =
     let b = next_ok (placed 3 (line_answer (Matrix ring rank) text)) _ q h in
-    let k = matrix_line ring rank text b.value.0 b.value.1 l (placed_ok 3 _ b.value b.first) in
+    let k = matrix_line ring rank text b.value.0 b.value.1 (placed_ok 3 _ b.value b.first) in
     let f = finished_back 4 (record { ring = ring; matrix = k.matrix }) q b.value.1 (subst (λ (s : State). finished 4 s b.value.1 ≡ Ok q) k.is b.then) in
     record { matrix = k.matrix; value = k.value; request = f.1; bytes = k.bytes ∙ ap (line_written (codes "matrix") k.value) f.0; laid = k.laid }
 
 record FromRank (ring : RingName) (text : List ℕ) (q : Request) : Type 0 where
-  rank : ℕ
-  low : 1 ≤ rank
-  high : rank ≤ 3
+  rank : Order
   rest : List ℕ
-  bytes : text ≡ line_written (codes "rank") (decimal rank) rest
+  bytes : text ≡ line_written (codes "rank") (decimal (number_of rank)) rest
   then : FromMatrix ring rank rest q
 
 from_rank : (ring : RingName) (text : List ℕ) (q : Request) → reading 2 2 (Rank ring) text ≡ Ok q → FromRank ring text q
@@ -309,20 +280,16 @@ from_rank ring text q h =
     let k = rank_line ring text b.value.0 b.value.1 (placed_ok 2 _ b.value b.first) in
     record {
       rank = k.rank;
-      low = k.low;
-      high = k.high;
       rest = b.value.1;
       bytes = k.bytes;
-      then = from_matrix ring k.rank b.value.1 q (mul-le-mul k.high k.high) (subst (λ (s : State). reading 1 3 s b.value.1 ≡ Ok q) k.is b.then);
+      then = from_matrix ring k.rank b.value.1 q (subst (λ (s : State). reading 1 3 s b.value.1 ≡ Ok q) k.is b.then);
     }
 
 -- from the lines to the request
-module _ (ring : RingName) (m : Square) (value text : List ℕ) where
-  request_back : (rank : ℕ) → 1 ≤ rank → rank ≤ 3 → Laid (coordinates_of ring) rank value m → text ≡ line_written (codes "ring") (ring_written ring) (line_written (codes "rank") (decimal rank) (line_written (codes "matrix") value [])) → (text ≡ written (record { ring = ring; matrix = m })) × WellFormed (record { ring = ring; matrix = m })
-  request_back rank low high laid w =
-      let e = sym laid.rank in
-      let laid' : Laid (coordinates_of ring) m.rank value m = subst (λ (n : ℕ). Laid (coordinates_of ring) n value m) e laid in
-      (w ∙ ap₂ (λ (n : ℕ) (v : List ℕ). line_written (codes "ring") (ring_written ring) (line_written (codes "rank") (decimal n) (line_written (codes "matrix") v []))) e laid'.bytes, record { rank_low = subst (λ (n : ℕ). 1 ≤ n) e low; rank_high = subst (λ (n : ℕ). n ≤ 3) e high; nine = laid.nine; entries = laid'.each; zeros = laid'.zeros })
+request_back : (ring : RingName) (rank : Order) (m : Square) (value text : List ℕ) → Laid (coordinates_of ring) rank value m → text ≡ line_written (codes "ring") (ring_written ring) (line_written (codes "rank") (decimal (number_of rank)) (line_written (codes "matrix") value [])) → (text ≡ written (record { ring = ring; matrix = m })) × WellFormed (record { ring = ring; matrix = m })
+request_back ring rank m value text laid w =
+    let e = sym laid.rank_kept in
+    (w ∙ ap₂ (λ (r : Order) (v : List ℕ). line_written (codes "ring") (ring_written ring) (line_written (codes "rank") (decimal (number_of r)) (line_written (codes "matrix") v []))) e laid.bytes, record { square = laid.square ∙ ap size e; entries = laid.each })
 
 pub read_back : (text : List ℕ) (q : Request) → read_answer text ≡ Ok q → (text ≡ written q) × WellFormed q
 read_back text q h =
@@ -331,5 +298,5 @@ read_back text q h =
     let k = ring_line text b.value.0 b.value.1 (placed_ok 1 _ b.value b.first) in
     let r = from_rank k.ring b.value.1 q (subst (λ (s : State). reading 2 2 s b.value.1 ≡ Ok q) k.is b.then) in
     let m = r.then in
-    let w = k.bytes ∙ ap (line_written (codes "ring") (ring_written k.ring)) (r.bytes ∙ ap (line_written (codes "rank") (decimal r.rank)) m.bytes) in
-    subst (λ (p : Request). (text ≡ written p) × WellFormed p) m.request (request_back k.ring m.matrix m.value text r.rank r.low r.high m.laid w)
+    let w = k.bytes ∙ ap (line_written (codes "ring") (ring_written k.ring)) (r.bytes ∙ ap (line_written (codes "rank") (decimal (number_of r.rank))) m.bytes) in
+    subst (λ (p : Request). (text ≡ written p) × WellFormed p) m.request (request_back k.ring r.rank m.matrix m.value text m.laid w)

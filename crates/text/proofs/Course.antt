@@ -12,9 +12,6 @@ use Rattle.text.specs.Values.{next}
 pub record Course (i n : ℕ) (s : State) (t text : List ℕ) : Type 0 where
   pub answer : reading (3 - i) n s t ≡ reading 3 1 Ring text
 
-pub start : (n : ℕ) (s : State) (t text : List ℕ) → n ≡ 1 → s ≡ Ring → t ≡ text → Course 0 n s t text
-start n s t text a b c = record { answer = rw (a, b, c) }
-
 module _ (i n : ℕ) (s : State) (t text : List ℕ) (k : Course i n s t text) where
   one_left : i < 3 → next (placed n (line_answer s t)) (λ step. reading (3 - (i + 1)) (suc n) step.0 step.1) ≡ reading 3 1 Ring text
   one_left l = subst (λ (m : ℕ). reading m n s t ≡ reading 3 1 Ring text) (let e : 3 - i ≡ suc (3 - (i + 1)) = omega arith in e) k.answer

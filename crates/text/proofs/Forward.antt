@@ -1,5 +1,5 @@
 -- What is written is read.
-use Rattle.std.proofs.Common.{◌≡◌, ℕ, zero, suc, ◌+◌, ◌-◌, ◌*◌, ◌^◌, ◌<◌, ◌≤◌, true, false, eqb, ◌⊎◌, List, [], ◌∷◌, ◌++◌, length, get_or, take, drop, replicate, ℤ, pos, negsuc, Some, None, Ok, codes, decimal, Result, sym, refl, ap, ◌∙◌, subst, inl, inr, ⊎_elim, mul-le-mul, arith, lit<, lit≤, length-append, take-append-drop, rules}
+use Rattle.std.proofs.Common.{◌≡◌, ℕ, zero, suc, ◌+◌, ◌*◌, ◌^◌, ◌<◌, ◌≤◌, true, false, eqb, ◌⊎◌, List, [], ◌∷◌, ◌++◌, length, get_or, ℤ, pos, negsuc, Some, None, Ok, codes, decimal, Result, refl, ap, ◌∙◌, inl, inr, ⊎_elim, mul-le-mul, arith, lit<, lit≤, length-append, rules}
 use lib.Signed.{mag}
 use Rattle.std.specs.Int.{IsInRange}
 use Rattle.std.specs.Fmt.{signed_decimal}
@@ -7,9 +7,7 @@ use Rattle.std.specs.List.{AllByRecursion}
 use Rattle.std.specs.Str.Parse.{digits_value as value}
 use Rattle.std.proofs.lemmas.Fmt.{decimal_digit, decimal_nonempty, digits_decimal, first_decimal, length-decimal-le, length_signed_le, digits_value-decimal}
 use Rattle.std.proofs.ByRecursion.{All-append, All-from_get_or, All-weaker}
-use Rattle.std.proofs.lemmas.List.{length-take-le}
 use Rattle.std.proofs.lemmas.Str.Parse.{digit_at}
-use Rattle.std.proofs.lemmas.Bool.Decides.{nat_tests}
 use Rattle.std.proofs.lemmas.Bool.{and_from, cond-true, cond-false, eq-eqb, le-leb, ne_eqb, not_from_false}
 use Rattle.refusal.specs.declared.Cause.{Cause}
 use Rattle.ring.specs.declared.elements.Element.{Element}
@@ -17,15 +15,18 @@ use Rattle.ring.specs.declared.elements.Coordinates.{Coordinates}
 use Rattle.ring.specs.declared.elements.Coordinates.TheVariants.{One, Two}
 use Rattle.text.specs.declared.request.RingName.{RingName}
 use Rattle.text.specs.declared.request.RingName.TheVariants.{Integers, Gaussian, Eisenstein}
+use Rattle.text.specs.declared.request.Rank.{Rank as Order}
+use Rattle.text.specs.declared.request.Rank.TheVariants.{One as RankOne, Two as RankTwo, Three as RankThree}
 use Rattle.text.specs.declared.request.Matrix.{Matrix as Square}
+use Rattle.text.specs.declared.request.Matrix.TheVariants.{One as MatrixOne, Two as MatrixTwo, Three as MatrixThree}
 use Rattle.text.specs.declared.request.Request.{Request}
 use Rattle.text.specs.declared.state.State.{State}
 use Rattle.text.specs.declared.state.State.TheVariants.{Ring, Rank, Matrix, Done}
 use Rattle.text.specs.Lines.{entered, line_answer, read_answer, reading}
 use Rattle.text.specs.Parts.{front, back}
-use Rattle.text.specs.Requests.{coordinates_of, elements, matrix_answer, padded, rank_answer, ranked, ring_answer, zero_element}
+use Rattle.text.specs.Requests.{coordinates_of, elements, entries_of, matrix_answer, matrix_of, number_of, rank_answer, rank_of, ranked, ring_answer, size}
 use Rattle.text.specs.Values.{begun, coordinate_answer, element_answer, natural, negated, next, number_answer}
-use Rattle.text.specs.Written.{Short, WellFormed, Writable, element_written, elements_written, line_written, ring_written, size, written}
+use Rattle.text.specs.Written.{Short, WellFormed, Writable, element_written, elements_written, line_written, ring_written, written}
 use Rattle.text.proofs.Numerals.{own}
 
 -- m is none of the bytes
@@ -150,21 +151,32 @@ ring_forth Integers = (refl, (refl, tt), refl)
 ring_forth Gaussian = (refl, (refl, tt), refl)
 ring_forth Eisenstein = (refl, (refl, tt), refl)
 
-ranked_forth : (n : ℕ) → 1 ≤ n → n ≤ 3 → ranked n ≡ Ok n
-ranked_forth n l h = grind (arith, nat_tests)
+-- the number of a rank is 1, 2 or 3
+number_within : (r : Order) → IsInRange 1 3 (number_of r)
+number_within RankOne = (lit≤ tt, lit≤ tt)
+number_within RankTwo = (lit≤ tt, lit≤ tt)
+number_within RankThree = (lit≤ tt, lit≤ tt)
 
-rank_forth : (n : ℕ) → 1 ≤ n → n ≤ 3 → rank_answer (decimal n) ≡ Ok n
-rank_forth n l h = ap (λ (r : Result ℕ Cause). next r ranked) (number_forth n (omega arith)) ∙ ranked_forth n l h
+ranked_forth : (r : Order) → ranked (number_of r) ≡ Ok r
+ranked_forth RankOne = refl
+ranked_forth RankTwo = refl
+ranked_forth RankThree = refl
 
-matrix_forth : (k : Coordinates) (m : Square) → 1 ≤ m.rank → m.rank ≤ 3 → length m.entries ≡ 9 → AllByRecursion (Writable k) (take (m.rank * m.rank) m.entries) → drop (m.rank * m.rank) m.entries ≡ replicate (9 - m.rank * m.rank) zero_element → matrix_answer k m.rank (elements_written k (take (m.rank * m.rank) m.entries)) ≡ Ok m
-matrix_forth k m low high nine each zeros =
-    let many : m.rank * m.rank ≤ 9 = mul-le-mul high high in
-    let some : 1 ≤ m.rank * m.rank = mul-le-mul low low in
-    let n = length-take-le (m.rank * m.rank) m.entries (omega arith) in
-    let r = elements_forth k (take (m.rank * m.rank) m.entries) (omega arith) each in
-    let r' = subst (λ (j : ℕ). elements k j (Some (elements_written k (take (m.rank * m.rank) m.entries))) ≡ Ok (take (m.rank * m.rank) m.entries)) n r in
-    let p : padded (take (m.rank * m.rank) m.entries) ≡ m.entries = rw (n, sym zeros) (take-append-drop (m.rank * m.rank) m.entries) in
-    rw (r', p)
+rank_forth : (r : Order) → rank_answer (decimal (number_of r)) ≡ Ok r
+rank_forth r = let l = number_within r in ap (λ (n : Result ℕ Cause). next n ranked) (number_forth (number_of r) (omega arith)) ∙ ranked_forth r
+
+-- a matrix is its rank and its entries
+matrix_whole : (m : Square) → matrix_of (rank_of m) (entries_of m) ≡ m
+matrix_whole (MatrixOne es) = refl
+matrix_whole (MatrixTwo es) = refl
+matrix_whole (MatrixThree es) = refl
+
+matrix_forth : (k : Coordinates) (m : Square) → length (entries_of m) ≡ size (rank_of m) → AllByRecursion (Writable k) (entries_of m) → matrix_answer k (rank_of m) (elements_written k (entries_of m)) ≡ Ok m
+matrix_forth k m square each =
+    let l = number_within (rank_of m) in
+    let some : 1 ≤ size (rank_of m) = mul-le-mul l.0 l.0 in
+    let r = elements_forth k (entries_of m) (omega arith) each in
+    rw (← square, r) (ap Ok (matrix_whole m))
 
 -- line by line
 reading_more : (lines n : ℕ) (s : State) (key value rest : List ℕ) (t : State) (q : Request) → AllByRecursion (IsInRange 97 122) key → Lacks 10 value → entered s key value ≡ Ok t → reading lines (suc n) t rest ≡ Ok q → reading (suc lines) n s (line_written key value rest) ≡ Ok q
@@ -175,22 +187,25 @@ line_length key value rest l = simp length-append (omega arith)
 
 pub read_forth : (q : Request) → WellFormed q → read_answer (written q) ≡ Ok q
 read_forth q w =
-    let many : size q ≤ 9 = mul-le-mul w.rank_high w.rank_high in
-    let rows = elements_written (coordinates_of q.ring) (take (size q) q.matrix.entries) in
+    let k = coordinates_of q.ring in
+    let rank = rank_of q.matrix in
+    let es = entries_of q.matrix in
+    let rows = elements_written k es in
     let last = line_written (codes "matrix") rows [] in
-    let middle = line_written (codes "rank") (decimal q.matrix.rank) last in
-    let m = matrix_forth (coordinates_of q.ring) q.matrix w.rank_low w.rank_high w.nine w.entries w.zeros in
+    let middle = line_written (codes "rank") (decimal (number_of rank)) last in
+    let l = number_within rank in
+    let many : size rank ≤ 9 = mul-le-mul l.1 l.1 in
+    let m = matrix_forth k q.matrix w.square w.entries in
     let r = ring_forth q.ring in
-    let no_end = lacks 10 44 58 rows (inl (lit< tt)) (elements_bytes (coordinates_of q.ring) (take (size q) q.matrix.entries) w.entries) in
-    let digits = lacks 10 48 57 (decimal q.matrix.rank) (inl (lit< tt)) (decimal_bytes q.matrix.rank (omega (arith, w.rank_high))) in
-    let c = reading_more 0 3 (Matrix q.ring q.matrix.rank) (codes "matrix") rows [] (Done q) q (search rules) no_end (rw m) refl in
-    let b = reading_more 1 2 (Rank q.ring) (codes "rank") (decimal q.matrix.rank) last (Matrix q.ring q.matrix.rank) q (search rules) digits (rw (rank_forth q.matrix.rank w.rank_low w.rank_high)) c in
+    let no_end = lacks 10 44 58 rows (inl (lit< tt)) (elements_bytes k es w.entries) in
+    let digits = lacks 10 48 57 (decimal (number_of rank)) (inl (lit< tt)) (decimal_bytes (number_of rank) (omega arith)) in
+    let c = reading_more 0 3 (Matrix q.ring rank) (codes "matrix") rows [] (Done q) q (search rules) no_end (rw m) refl in
+    let b = reading_more 1 2 (Rank q.ring) (codes "rank") (decimal (number_of rank)) last (Matrix q.ring rank) q (search rules) digits (rw (rank_forth rank)) c in
     let a = reading_more 2 1 Ring (codes "ring") (ring_written q.ring) middle (Rank q.ring) q (search rules) r.1 (rw r.0) b in
     let n₁ = line_length (codes "ring") (ring_written q.ring) middle (lit≤ tt) in
-    let n₂ = line_length (codes "rank") (decimal q.matrix.rank) last (lit≤ tt) in
+    let n₂ = line_length (codes "rank") (decimal (number_of rank)) last (lit≤ tt) in
     let n₃ = line_length (codes "matrix") rows [] (lit≤ tt) in
-    let n₄ = elements_length (coordinates_of q.ring) (take (size q) q.matrix.entries) w.entries in
-    let n₅ = length-take-le (size q) q.matrix.entries (omega (arith, w.nine)) in
-    let n₆ = length-decimal-le 1 q.matrix.rank (lit< tt) (omega (arith, w.rank_high)) (omega (arith, w.rank_high)) in
-    let short : length (written q) ≤ 16384 = omega (arith, r.2) in
+    let n₄ = elements_length k es w.entries in
+    let n₅ = length-decimal-le 1 (number_of rank) (lit< tt) (omega arith) (omega arith) in
+    let short : length (written q) ≤ 16384 = omega (arith, r.2, w.square) in
     cond-true _ _ _ (le-leb _ _ short) ∙ a

@@ -1,17 +1,16 @@
 -- The digits of a number.
-use Rattle.std.proofs.Common.{◌≡◌, ℕ, zero, suc, ◌+◌, ◌-◌, ◌*◌, ◌^◌, ◌<◌, ◌≤◌, true, eqb, List, length, get_or, take, drop, pos, ◌-ℤ◌, IfOk, Ok, Err, Result, sym, refl, ap, ◌∙◌, ⊎_elim, arith, length-take, w64, to_z, of_z}
+use Rattle.std.proofs.Common.{◌≡◌, ℕ, ◌+◌, ◌-◌, ◌*◌, ◌^◌, ◌<◌, ◌≤◌, true, eqb, List, length, get_or, take, IfOk, Err, Result, sym, ap, ◌∙◌, ⊎_elim, arith, length-take}
 use Rattle.std.specs.Str.Parse.{digits_value}
 use Rattle.std.specs.Int.{IsInRange, IsOutOfRange}
 use Rattle.std.specs.Char.{digit_value}
 use Rattle.std.specs.Str.{all_ascii_digits}
 use Rattle.std.proofs.lemmas.Int.Digits.{digits_more, digits_value_more}
 use Rattle.std.proofs.lemmas.Str.Parse.{IsNumeralModel, numerals_by_value, tells_all_ascii_digits, digit_at, digits_value_short}
-use Rattle.std.proofs.lemmas.Bool.{cases_Bool, cond-true, cond-false, cond_both, eq-eqb, ne_eqb}
+use Rattle.std.proofs.lemmas.Bool.{cases_Bool, cond-false, cond_both, ne_eqb}
 use Rattle.std.proofs.lemmas.Bool.Decides.{nat_tests}
-use Rattle.std.proofs.lemmas.Int.{ints}
 use Rattle.refusal.specs.declared.Cause.{Cause}
 use Rattle.refusal.specs.declared.Cause.TheVariants.{Value}
-use Rattle.text.specs.Values.{digits_answer, number_answer, coordinate_answer, negated, natural, next}
+use Rattle.text.specs.Values.{digits_answer, number_answer, coordinate_answer, natural, next}
 
 pub own : IsNumeralModel (λ ds. all_ascii_digits ds ≡ true) (digits_value 10)
 own = numerals_by_value _ tells_all_ascii_digits
@@ -40,13 +39,5 @@ no_number bs i l out =
 pub digits_bound : (bs : List ℕ) (k : ℕ) → length bs ≤ k → IfOk (digits_answer bs) (λ n. n < 10 ^ k)
 digits_bound bs k l = cond_both (all_ascii_digits bs) _ _ (λ r. IfOk r (λ n. n < 10 ^ k)) (λ p. digits_value_short own bs k p l) (λ p. tt)
 
--- the two shapes of a coordinate
-pub with_minus : (bs rest : List ℕ) (r : Result ℕ Cause) → get_or bs 0 0 ≡ 45 → rest ≡ drop 1 bs → r ≡ number_answer rest → next r negated ≡ coordinate_answer bs
-with_minus bs rest r m d e = ap (λ (q : Result ℕ Cause). next q negated) (e ∙ ap number_answer d) ∙ sym (cond-true (eqb (get_or bs 0 0) 45) _ _ (eq-eqb _ 45 m))
-
 pub without_minus : (bs : List ℕ) (r : Result ℕ Cause) → (get_or bs 0 0 ≡ 45 → ⊥) → r ≡ number_answer bs → next r natural ≡ coordinate_answer bs
 without_minus bs r m e = ap (λ (q : Result ℕ Cause). next q natural) e ∙ sym (cond-false (eqb (get_or bs 0 0) 45) _ _ (ne_eqb _ 45 m))
-
-pub negated_is : (n : ℕ) → (n ≡ 0 → ⊥) → n < 10 ^ 15 → Ok (to_z w64 (of_z w64 (pos 0 -ℤ to_z w64 n))) ≡ negated n
-negated_is zero h l = absurd (h refl)
-negated_is (suc n) h l = ap Ok (omega (arith, ints))

@@ -20,13 +20,6 @@ line_of (Rank ring) = 2
 line_of (Matrix ring rank) = 3
 line_of (Done request) = 4
 
--- the rank that a state waits with
-abbrev pub rank_of : State → ℕ
-rank_of Ring = 0
-rank_of (Rank ring) = 0
-rank_of (Matrix ring rank) = rank
-rank_of (Done request) = 0
-
 -- what a line with this key and value says: the ring, then the rank, then the matrix
 abbrev pub entered : State → List ℕ → List ℕ → Result State Cause
 entered Ring key value = cond (spells key (codes "ring")) (next (ring_answer value) (λ ring. Ok (Rank ring))) (Err Line)

@@ -1,5 +1,5 @@
 -- What rings, ranks and matrices are read from bytes.
-use Rattle.std.specs.Prelude.{ℕ, zero, suc, ◌-◌, ◌*◌, cond, List, [], ◌∷◌, ◌++◌, length, replicate, pos, negsuc, Some, None, Ok, Err, Option, Result, ◌==◌, slice_index}
+use Rattle.std.specs.Prelude.{ℕ, zero, suc, ◌*◌, cond, List, [], ◌∷◌, length, pos, negsuc, Some, None, Ok, Err, Option, Result, ◌==◌, slice_index}
 use Rattle.refusal.specs.declared.Cause.{Cause}
 use Rattle.refusal.specs.declared.Cause.TheVariants.{Value}
 use Rattle.ring.specs.declared.elements.Element.{Element}
@@ -7,7 +7,10 @@ use Rattle.ring.specs.declared.elements.Coordinates.{Coordinates}
 use Rattle.ring.specs.declared.elements.Coordinates.TheVariants.{One, Two}
 use Rattle.text.specs.declared.request.RingName.{RingName}
 use Rattle.text.specs.declared.request.RingName.TheVariants.{Integers, Gaussian, Eisenstein}
+use Rattle.text.specs.declared.request.Rank.{Rank}
+use Rattle.text.specs.declared.request.Rank.TheVariants.{One as RankOne, Two as RankTwo, Three as RankThree}
 use Rattle.text.specs.declared.request.Matrix.{Matrix}
+use Rattle.text.specs.declared.request.Matrix.TheVariants.{One as MatrixOne, Two as MatrixTwo, Three as MatrixThree}
 use Rattle.text.specs.Parts.{front, back}
 use Rattle.text.specs.Values.{next, number_answer, element_answer}
 
@@ -24,10 +27,16 @@ lettered b = cond (b == 90) (Ok Integers) (cond (b == 71) (Ok Gaussian) (cond (b
 abbrev pub ring_answer : List ℕ → Result RingName Cause
 ring_answer bs = cond (length bs == 1) (lettered (slice_index bs 0)) (Err Value)
 
-abbrev pub ranked : ℕ → Result ℕ Cause
-ranked n = cond (n == 1) (Ok 1) (cond (n == 2) (Ok 2) (cond (n == 3) (Ok 3) (Err Value)))
+abbrev pub number_of : Rank → ℕ
+number_of RankOne = 1
+number_of RankTwo = 2
+number_of RankThree = 3
 
-abbrev pub rank_answer : List ℕ → Result ℕ Cause
+-- 1, 2 or 3
+abbrev pub ranked : ℕ → Result Rank Cause
+ranked n = cond (n == 1) (Ok RankOne) (cond (n == 2) (Ok RankTwo) (cond (n == 3) (Ok RankThree) (Err Value)))
+
+abbrev pub rank_answer : List ℕ → Result Rank Cause
 rank_answer bs = next (number_answer bs) ranked
 
 -- n elements, each up to the next comma or to the end
@@ -37,15 +46,25 @@ elements k zero (Some bs) = Err Value
 elements k (suc n) None = Err Value
 elements k (suc n) (Some bs) = next (element_answer k (front 44 bs)) (λ e. next (elements k n (back 44 bs)) (λ es. Ok (e ∷ es)))
 
-abbrev pub zero_element : Element
-zero_element = record { x = pos 0; y = pos 0 }
+abbrev pub rank_of : Matrix → Rank
+rank_of (MatrixOne es) = RankOne
+rank_of (MatrixTwo es) = RankTwo
+rank_of (MatrixThree es) = RankThree
 
--- filled up with zeros to nine
-abbrev pub padded : List Element → List Element
-padded es = es ++ replicate (9 - length es) zero_element
+-- by rows
+abbrev pub entries_of : Matrix → List Element
+entries_of (MatrixOne es) = es
+entries_of (MatrixTwo es) = es
+entries_of (MatrixThree es) = es
 
-abbrev pub entries_answer : Coordinates → ℕ → List ℕ → Result (List Element) Cause
-entries_answer k n bs = next (elements k n (Some bs)) (λ es. Ok (padded es))
+abbrev pub matrix_of : Rank → List Element → Matrix
+matrix_of RankOne es = MatrixOne es
+matrix_of RankTwo es = MatrixTwo es
+matrix_of RankThree es = MatrixThree es
 
-abbrev pub matrix_answer : Coordinates → ℕ → List ℕ → Result Matrix Cause
-matrix_answer k rank bs = next (entries_answer k (rank * rank) bs) (λ es. Ok (record { rank = rank; entries = es }))
+-- how many entries a matrix of the rank has
+abbrev pub size : Rank → ℕ
+size rank = number_of rank * number_of rank
+
+abbrev pub matrix_answer : Coordinates → Rank → List ℕ → Result Matrix Cause
+matrix_answer k rank bs = next (elements k (size rank) (Some bs)) (λ es. Ok (matrix_of rank es))

@@ -1,5 +1,5 @@
 -- How a request is written, and the law that ties reading to writing.
-use Rattle.std.specs.Prelude.{◌≡◌, ℕ, ◌-◌, ◌*◌, ◌^◌, ◌<◌, ◌≤◌, List, [], ◌∷◌, ◌++◌, length, take, drop, replicate, ℤ, Ok, codes, decimal, unsigned_abs}
+use Rattle.std.specs.Prelude.{◌≡◌, ℕ, ◌^◌, ◌<◌, List, [], ◌∷◌, ◌++◌, length, ℤ, Ok, codes, decimal, unsigned_abs}
 use Rattle.std.specs.Fmt.{signed_decimal}
 use Rattle.std.specs.List.{AllByRecursion}
 use Rattle.ring.specs.declared.elements.Element.{Element}
@@ -10,7 +10,7 @@ use Rattle.text.specs.declared.request.RingName.{RingName}
 use Rattle.text.specs.declared.request.RingName.TheVariants.{Integers, Gaussian, Eisenstein}
 use Rattle.text.specs.declared.request.Request.{Request}
 use Rattle.text.specs.Lines.{read_answer}
-use Rattle.text.specs.Requests.{coordinates_of, zero_element}
+use Rattle.text.specs.Requests.{coordinates_of, entries_of, number_of, rank_of, size}
 
 -- x, or x:y
 abbrev pub element_written : Coordinates → Element → List ℕ
@@ -32,12 +32,9 @@ ring_written Eisenstein = codes "E"
 abbrev pub line_written : List ℕ → List ℕ → List ℕ → List ℕ
 line_written key value rest = (key ++ (61 ∷ value)) ++ (10 ∷ rest)
 
-abbrev pub size : Request → ℕ
-size q = q.matrix.rank * q.matrix.rank
-
 abbrev pub written : Request → List ℕ
 written q =
-    line_written (codes "ring") (ring_written q.ring) (line_written (codes "rank") (decimal q.matrix.rank) (line_written (codes "matrix") (elements_written (coordinates_of q.ring) (take (size q) q.matrix.entries)) []))
+    line_written (codes "ring") (ring_written q.ring) (line_written (codes "rank") (decimal (number_of (rank_of q.matrix))) (line_written (codes "matrix") (elements_written (coordinates_of q.ring) (entries_of q.matrix)) []))
 
 -- at most 15 digits
 abbrev pub Short : ℤ → Type 0
@@ -51,11 +48,8 @@ pub record Writable (k : Coordinates) (e : Element) : Type 0 where
 
 -- what a text can say
 pub record WellFormed (q : Request) : Type 0 where
-  pub rank_low : 1 ≤ q.matrix.rank
-  pub rank_high : q.matrix.rank ≤ 3
-  pub nine : length q.matrix.entries ≡ 9
-  pub entries : AllByRecursion (Writable (coordinates_of q.ring)) (take (size q) q.matrix.entries)
-  pub zeros : drop (size q) q.matrix.entries ≡ replicate (9 - size q) zero_element
+  pub square : length (entries_of q.matrix) ≡ size (rank_of q.matrix)
+  pub entries : AllByRecursion (Writable (coordinates_of q.ring)) (entries_of q.matrix)
 
 -- reading accepts just what writing gives, and gives it back
 pub record ReadingInvertsWriting : Type 0 where

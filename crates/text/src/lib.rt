@@ -15,7 +15,7 @@ mod values;
 
 pub use parts::cut;
 use reader::Reader;
-pub use request::{Matrix, Request, RingName};
+pub use request::{Matrix, Rank, Request, RingName};
 pub use values::{coordinate, element, number};
 
 /// The most bytes of a text.
@@ -29,7 +29,7 @@ pub fn read(text: &[u8]) -> Result<Request, Refusal>
     ensures { result ≡ read_answer text.now }
 {
     if text.len() > LIMIT {
-        return Err(Refusal::of(Cause::Line));
+        return Err(Refusal::from(Cause::Line));
     }
     let mut reader = Reader::new(text);
     for _ in 0..LINES {
@@ -39,34 +39,38 @@ pub fn read(text: &[u8]) -> Result<Request, Refusal>
 }
 
 /// A text is read just if it is how a request is written, and gives that request.
-pub fn reading_inverts_writing() -> u8
+pub fn reading_inverts_writing()
     ensures { ReadingInvertsWriting }
-{
-    0
-}
+{}
 
 #[cfg(test)]
 mod tests {
     use super::*;
+    use ring::Element;
     use std::test::Fail;
 
+    // By the numbers that a report shows, since they never change.
     fn refuses(text: &[u8], cause: u8, place: u64) -> bool {
-        match read(text) {
-            Err(refusal) => refusal.cause.number() == cause && refusal.place == place,
-            Ok(_) => false,
-        }
+        read(text).is_err_and(|refusal| (refusal.cause.number(), refusal.place) == (cause, place))
     }
 
     #[test]
     fn reads_elements_by_rows(rt: HostRuntime) -> Result<(), Fail> {
-        let Ok(request) = read(b"ring=G\nrank=2\nmatrix=1:0,-20:3,0:999999999999999,5:-7\n") else {
-            return Err(Fail::new("not read"));
-        };
+        let request = read(b"ring=G\nrank=2\nmatrix=1:0,-20:3,0:999999999999999,5:-7\n")?;
         assert!(rt; request.ring == RingName::Gaussian);
-        assert!(rt; request.matrix.rank == 2);
-        assert!(rt; request.matrix.entries[1].x == -20 && request.matrix.entries[1].y == 3);
-        assert!(rt; request.matrix.entries[2].y == 999999999999999);
-        assert!(rt; request.matrix.entries[3].y == -7 && request.matrix.entries[4].x == 0);
+        assert!(rt; request.matrix.rank().number() == 2);
+        let entries = request.matrix.entries();
+        assert!(rt; entries.len() == 4);
+        assert!(rt; entries[0] == Element { x: 1, y: 0 });
+        assert!(rt; entries[1] == Element { x: -20, y: 3 });
+        assert!(rt;
+            entries[2]
+                == Element {
+                    x: 0,
+                    y: 999999999999999
+                }
+        );
+        assert!(rt; entries[3] == Element { x: 5, y: -7 });
         Ok(())
     }
 

@@ -1,10 +1,11 @@
 //! The reader of a text, line by line.
-ghost use Rattle.std.specs.Prelude.{◌≡◌, ◌≤◌};
-ghost use Rattle.text.specs.Lines.{Kept, counted, entered, finished, line_answer, line_of, outcome, placed, rank_of, seen};
+ghost use Rattle.refusal.specs.Numbers.{refused};
+ghost use Rattle.std.specs.Prelude.{◌≡◌};
+ghost use Rattle.text.specs.Lines.{Kept, counted, entered, finished, line_answer, line_of, outcome, placed, seen};
 ghost use Rattle.text.specs.declared.state.State.TheVariants.{Ring};
 
 use super::parts::cut;
-use super::request::{Request, rank, ring_name, square};
+use super::request::{Matrix, Rank, Request, RingName};
 use super::state::State;
 use refusal::{Cause, Refusal};
 
@@ -15,7 +16,6 @@ pub(super) struct Reader<'a> {
     line: u64,
     state: State,
     ghost waits: { line ≡ line_of state },
-    ghost small: { rank_of state ≤ 3 },
 }
 
 impl<'a> Reader<'a> {
@@ -32,20 +32,31 @@ impl<'a> Reader<'a> {
         }
     }
 
+    // A fault in the next line.
+    fn refusal(&self, cause: Cause) -> Refusal
+        ensures { result ≡ refused cause self.now.line }
+    {
+        Refusal {
+            cause,
+            place: self.line,
+        }
+    }
+
     // What follows a line with this key and value.
     fn enter(&self, key: &[u8], value: &[u8]) -> Result<State, Cause>
         ensures { result ≡ entered self.now.state key.now value.now }
     {
+        // One match over state and key, a rule of the project: it alone decides which fault a line is.
         match (self.state, key) {
             (State::Ring, b"ring") => Ok(State::Rank {
-                ring: ring_name(value)?,
+                ring: RingName::try_from(value)?,
             }),
             (State::Rank { ring }, b"rank") => Ok(State::Matrix {
                 ring,
-                rank: rank(value)?,
+                rank: Rank::try_from(value)?,
             }),
             (State::Matrix { ring, rank }, b"matrix") => {
-                let matrix = square(ring, rank, value)?;
+                let matrix = Matrix::read(ring.coordinates(), rank, value)?;
                 let request = Request { ring, matrix };
                 Ok(State::Done { request })
             }
@@ -80,10 +91,7 @@ impl<'a> Reader<'a> {
                 self.line += 1;
                 Ok(())
             }
-            Err(cause) => Err(Refusal {
-                cause,
-                place: self.line,
-            }),
+            Err(cause) => Err(self.refusal(cause)),
         }
     }
 
@@ -93,10 +101,7 @@ impl<'a> Reader<'a> {
     {
         match (self.state, self.rest) {
             (State::Done { request }, []) => Ok(request),
-            _ => Err(Refusal {
-                cause: Cause::Line,
-                place: self.line,
-            }),
+            _ => Err(self.refusal(Cause::Line)),
         }
     }
 }

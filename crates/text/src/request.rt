@@ -1,11 +1,13 @@
 //! What `locate` is asked, and the values that say it.
-ghost use Rattle.std.specs.Prelude.{◌≡◌, ◌≤◌};
-ghost use Rattle.text.specs.Requests.{coordinates_of, entries_answer, matrix_answer, rank_answer, ring_answer};
+ghost use Rattle.std.specs.Prelude.{◌≡◌, Some};
+ghost use Rattle.text.specs.Requests.{coordinates_of, elements, entries_of, matrix_answer, number_of, rank_answer, rank_of, ring_answer};
+ghost use Rattle.text.specs.Written.{ring_written};
 
 use super::parts::cut;
 use super::values::{element, number};
 use refusal::Cause;
 use ring::{Coordinates, Element};
+use std::fmt;
 
 /// A ring that a text can name.
 #[derive(Clone, Copy, PartialEq, Eq, Debug)]
@@ -28,11 +30,109 @@ impl RingName {
     }
 }
 
-/// A square matrix by rows: the first `rank`² entries, and 0 after them.
+/// The ring of the letter.
+impl TryFrom<&[u8]> for RingName {
+    type Error = Cause;
+
+    ghost try_from_gives = { λ bytes r. r ≡ ring_answer bytes.now };
+
+    fn try_from(bytes: &[u8]) -> Result<RingName, Cause> {
+        match bytes {
+            b"Z" => Ok(RingName::Integers),
+            b"G" => Ok(RingName::Gaussian),
+            b"E" => Ok(RingName::Eisenstein),
+            _ => Err(Cause::Value),
+        }
+    }
+}
+
+/// The letter of the ring.
+impl fmt::Display for RingName {
+    ghost output = { λ ring. Some (ring_written ring) };
+
+    fn fmt<W: fmt::Write>(&self, f: &mut fmt::Formatter<W>) -> fmt::Result {
+        f.write_str(match self {
+            RingName::Integers => "Z",
+            RingName::Gaussian => "G",
+            RingName::Eisenstein => "E",
+        })
+    }
+}
+
+/// How many rows and columns a matrix has.
+#[derive(Clone, Copy, PartialEq, Eq, Debug)]
+pub enum Rank {
+    One = 1,
+    Two = 2,
+    Three = 3,
+}
+
+impl Rank {
+    /// The rank as a number.
+    pub fn number(self) -> u8
+        ensures { result ≡ number_of self }
+    {
+        self as u8
+    }
+}
+
+/// A rank is a number from 1 to 3.
+impl TryFrom<&[u8]> for Rank {
+    type Error = Cause;
+
+    ghost try_from_gives = { λ bytes r. r ≡ rank_answer bytes.now };
+
+    fn try_from(bytes: &[u8]) -> Result<Rank, Cause> {
+        match number(bytes)? {
+            1 => Ok(Rank::One),
+            2 => Ok(Rank::Two),
+            3 => Ok(Rank::Three),
+            _ => Err(Cause::Value),
+        }
+    }
+}
+
+/// A square matrix by rows, with a variant for each rank.
 #[derive(Clone, Copy)]
-pub struct Matrix {
-    pub rank: u8,
-    pub entries: [Element; 9],
+pub enum Matrix {
+    One([Element; 1]),
+    Two([Element; 4]),
+    Three([Element; 9]),
+}
+
+impl Matrix {
+    /// Reads the elements of a matrix of that rank.
+    pub(super) fn read(k: Coordinates, rank: Rank, bytes: &[u8]) -> Result<Matrix, Cause>
+        ensures { result ≡ matrix_answer k rank bytes.now }
+    {
+        match rank {
+            Rank::One => Ok(Matrix::One(entries(k, bytes)?)),
+            Rank::Two => Ok(Matrix::Two(entries(k, bytes)?)),
+            Rank::Three => Ok(Matrix::Three(entries(k, bytes)?)),
+        }
+    }
+
+    /// How many rows and columns it has.
+    pub fn rank(&self) -> Rank
+        ensures { result ≡ rank_of self.now }
+    {
+        match self {
+            Matrix::One(_) => Rank::One,
+            Matrix::Two(_) => Rank::Two,
+            Matrix::Three(_) => Rank::Three,
+        }
+    }
+
+    /// The entries by rows.
+    pub fn entries(&self) -> &[Element]
+        ensures { result.now ≡ entries_of self.now }
+    {
+        match self {
+            Matrix::One(entries) => entries,
+            Matrix::Two(entries) => entries,
+            Matrix::Three(entries) => entries,
+        }
+    }
 }
 
 /// A matrix over a ring.
@@ -42,59 +142,22 @@ pub struct Request {
     pub matrix: Matrix,
 }
 
-/// The ring of the letter.
-pub(super) fn ring_name(bytes: &[u8]) -> Result<RingName, Cause>
-    ensures { result ≡ ring_answer bytes.now }
+// Just `N` elements with commas between them.
+fn entries<const N: usize>(k: Coordinates, bytes: &[u8]) -> Result<[Element; N], Cause>
+    ensures { result ≡ elements k N (Some bytes.now) }
 {
-    match bytes {
-        b"Z" => Ok(RingName::Integers),
-        b"G" => Ok(RingName::Gaussian),
-        b"E" => Ok(RingName::Eisenstein),
-        _ => Err(Cause::Value),
-    }
-}
-
-/// A rank is a number from 1 to 3.
-pub(super) fn rank(bytes: &[u8]) -> Result<u8, Cause>
-    ensures { result ≡ rank_answer bytes.now }
-{
-    match number(bytes)? {
-        1 => Ok(1),
-        2 => Ok(2),
-        3 => Ok(3),
-        _ => Err(Cause::Value),
-    }
-}
-
-// Just `count` elements with commas between them.
-fn entries(k: Coordinates, count: usize, bytes: &[u8]) -> Result<[Element; 9], Cause>
-    requires { count ≤ 9 }
-    ensures { result ≡ entries_answer k count bytes.now }
-{
-    let mut entries = [Element { x: 0, y: 0 }; 9];
+    let mut entries = [Element { x: 0, y: 0 }; N];
     let mut rest = Some(bytes);
-    for i in 0..count {
+    for entry in entries.iter_mut() {
         let Some(part) = rest else {
             return Err(Cause::Value);
         };
         let (first, after) = cut(part, b',');
-        entries[i] = element(k, first)?;
+        *entry = element(k, first)?;
         rest = after;
     }
     match rest {
         None => Ok(entries),
         Some(_) => Err(Cause::Value),
     }
-}
-
-/// The `rank`² elements of a matrix, by rows.
-pub(super) fn square(ring: RingName, rank: u8, bytes: &[u8]) -> Result<Matrix, Cause>
-    requires { rank ≤ 3 }
-    ensures { result ≡ matrix_answer (coordinates_of ring) rank bytes.now }
-{
-    let count = usize::from(rank) * usize::from(rank);
-    Ok(Matrix {
-        rank,
-        entries: entries(ring.coordinates(), count, bytes)?,
-    })
 }

@@ -30,8 +30,7 @@ pub fn number(bytes: &[u8]) -> Result<u64, Cause>
     ensures bound { IfOk result (λ n. n < 10 ^ 15) }
 {
     match bytes {
-        [] => Err(Cause::Value),
-        [b'0', _, ..] => Err(Cause::Value),
+        [] | [b'0', _, ..] => Err(Cause::Value),
         _ if bytes.len() > DIGITS => Err(Cause::Value),
         _ => digits(bytes),
     }

@@ -1,10 +1,7 @@
 use Rattle.std.proofs.Common.{◌∙◌}
 use Rattle.std.proofs.lemmas.Result.{err_from_is_err_and}
-use Rattle.text.proofs.Course.{done, fault, more, start, within}
+use Rattle.text.proofs.Course.{done, fault, more, within}
 use Rattle.text.proofs.read.Goals as goal
-
-pub loop-init : goal.loop-init
-loop-init c = start _ _ _ _ c.new-reader.ensures.line c.new-reader.ensures.state c.new-reader.ensures.rest
 
 pub returns-in_err-step : goal.returns-in_err-step
 returns-in_err-step c =

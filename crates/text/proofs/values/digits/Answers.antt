@@ -1,7 +1,4 @@
-use Rattle.std.proofs.Common.{◌≡◌, true, Ok, sym, ap, ◌∙◌, arith}
-use Rattle.std.specs.Str.{all_ascii_digits}
-use Rattle.std.proofs.lemmas.List.{take_all}
-use Rattle.std.proofs.lemmas.Bool.{cond-true}
+use Rattle.std.proofs.Common.{arith}
 use Rattle.text.proofs.Numerals.{early, no_number, one_more}
 use Rattle.text.proofs.values.digits.Goals as goal
 
@@ -22,9 +19,3 @@ pub loop-byte-preserved : goal.loop-byte-preserved
 loop-byte-preserved c =
     let e = one_more c.args.bytes.now c.loop-byte.byte-index c.loop-byte.n c.loop-byte-test.true c.if-not-is_ascii_digit.ensures.cases c.loop-byte.invariant.0 c.loop-byte.invariant.1 in
     (e.0, rw c.from.ensures e.1)
-
-pub returns : goal.returns
-returns c =
-    let whole = take_all c.loop-byte.byte-index c.args.bytes.now c.loop-byte-test.false in
-    let a : all_ascii_digits c.args.bytes.now ≡ true = rw whole at c.loop-byte.invariant.0 in
-    ap Ok (rw whole at c.loop-byte.invariant.1) ∙ sym (cond-true (all_ascii_digits c.args.bytes.now) _ _ a)

@@ -4,5 +4,4 @@ use Rattle.text.proofs.reader.Reader.step.Goals as goal
 
 pub invariant_of-self : goal.invariant_of-self
 invariant_of-self c =
-    let f = line_follows c.args.self.now.state c.args.self.now.rest.now c.in-Ok.state c.in-Ok.rest.now c.in-Ok.ensures in
-    record { waits = ap (λ (n : ℕ). n + 1) c.args.self.now.waits ∙ f.line; small = f.rank }
+    record { waits = ap (λ (n : ℕ). n + 1) c.args.self.now.waits ∙ line_follows c.args.self.now.state c.args.self.now.rest.now c.in-Ok.state c.in-Ok.rest.now c.in-Ok.ensures }
