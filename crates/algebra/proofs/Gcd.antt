@@ -4,7 +4,7 @@ use Rattle.algebra.specs.Divisors.{gcd, gcd_within}
 use Rattle.algebra.specs.Statements.{IsGcd}
 use Rattle.algebra.proofs.Integers.{ℤ_ring}
 use Rattle.algebra.proofs.Quote.{ring, quoteℤ}
-use Rattle.algebra.proofs.Whole.{nat_abs_mul}
+use Rattle.std.proofs.lemmas.Int.{unsigned_abs-mul}
 
 one_times : (z : ℤ) → z ≡ pos 1 *ℤ z
 one_times z = ring ℤ_ring (z ∷ []) (λ k. search quoteℤ) (λ k. search quoteℤ) refl
@@ -61,7 +61,7 @@ gcd_divides : (m n g h : ℕ) → IsGcd m n g → IsGcd m n h → (k : ℕ) × (
 gcd_divides m n g h i j =
     let c = j.combination in
     let k = c.0 *ℤ i.divides_left.0 +ℤ c.1 *ℤ i.divides_right.0 in
-    (nat_abs k, ap nat_abs (c.2 ∙ divides_combination (pos g) (pos m) (pos n) c.0 c.1 i.divides_left.0 i.divides_right.0 i.divides_left.1 i.divides_right.1) ∙ nat_abs_mul k (pos g))
+    (nat_abs k, ap nat_abs (c.2 ∙ divides_combination (pos g) (pos m) (pos n) c.0 c.1 i.divides_left.0 i.divides_right.0 i.divides_left.1 i.divides_right.1) ∙ unsigned_abs-mul k (pos g))
 
 both_divide : (g h j k : ℕ) → h ≡ k * g → g ≡ j * h → g ≡ h
 both_divide g h j zero e f = let z : j * h ≡ 0 = ap (λ (n : ℕ). j * n) (e ∙ zero-mul g) ∙ mul-zero j in omega (arith, e, f, z, zero-mul g)

@@ -5,18 +5,18 @@ use ring::{Coordinates, Division, Element, Ring};
 use std::fmt;
 
 /// An element as the tables write it and a line shows it.
+// A type of its own, since `Display` of another crate's `Element` cannot be written here.
 #[derive(Clone, Copy)]
 pub struct Point(pub i64, pub i64);
 
-impl Point {
-    fn element(self) -> Element {
-        Element {
-            x: self.0,
-            y: self.1,
-        }
+impl From<Point> for Element {
+    fn from(Point(x, y): Point) -> Element {
+        Element { x, y }
     }
+}
 
-    fn of(e: Element) -> Point {
+impl From<Element> for Point {
+    fn from(e: Element) -> Point {
         Point(e.x, e.y)
     }
 }
@@ -86,12 +86,12 @@ impl fmt::Display for Answer {
         match *self {
             Answer::Axes(Coordinates::One) => write!(f, "one"),
             Answer::Axes(Coordinates::Two(a, b)) => write!(f, "two with {a} and {b}"),
-            Answer::Value(e) => write!(f, "{}", Point::of(e)),
+            Answer::Value(e) => write!(f, "{}", Point::from(e)),
             Answer::Number(n) => write!(f, "{n}"),
             Answer::Truth(t) => write!(f, "{t}"),
             Answer::Quotient(d, smaller) => {
-                let q = Point::of(d.quotient);
-                let r = Point::of(d.remainder);
+                let q = Point::from(d.quotient);
+                let r = Point::from(d.remainder);
                 match smaller {
                     Some(s) => write!(f, "q {q} r {r} smaller {s}"),
                     None => write!(f, "q {q} r {r} out of limits"),
@@ -105,36 +105,30 @@ fn divided<R: Ring>(ring: &R, a: Element, b: Element) -> Result<Answer, Refusal>
     let d = ring.divide(a, b)?;
     let size = ring.norm(b)?;
     // A remainder may be too large to be passed on, and that is no refusal of the division.
-    let smaller = match ring.norm(d.remainder) {
-        Ok(rest) => Some(rest < size),
-        Err(_) => None,
-    };
+    let smaller = ring.norm(d.remainder).ok().map(|rest| rest < size);
     Ok(Answer::Quotient(d, smaller))
 }
 
 /// What the ring gives.
+// A call is an enum, since a closure could not print its arguments.
 pub fn ask<R: Ring>(ring: &R, call: Call) -> Result<Answer, Refusal> {
-    let answer = match call {
-        Call::Coordinates => Answer::Axes(ring.coordinates()),
-        Call::Sum(a, b) => Answer::Value(ring.sum(a.element(), b.element())?),
-        Call::Product(a, b) => Answer::Value(ring.product(a.element(), b.element())?),
-        Call::Norm(a) => Answer::Number(ring.norm(a.element())?),
-        Call::IsUnit(a) => Answer::Truth(ring.is_unit(a.element())?),
-        Call::CanonicalAssociate(a) => Answer::Value(ring.canonical_associate(a.element())?),
-        Call::Divide(a, b) => divided(ring, a.element(), b.element())?,
-        Call::Residue(a, m) => Answer::Value(ring.residue(a.element(), m.element())?),
-        Call::CanonicalCount(n) => Answer::Number(ring.canonical_count(n)?),
-        Call::CanonicalElement(n, i) => Answer::Value(ring.canonical_element(n, i)?),
-        Call::CanonicalNumber(a) => Answer::Number(ring.canonical_number(a.element())?),
-        Call::ResidueElement(m, i) => Answer::Value(ring.residue_element(m.element(), i)?),
-        Call::ResidueNumber(m, a) => Answer::Number(ring.residue_number(m.element(), a.element())?),
-        Call::Gcd(a, b) => Answer::Value(gcd(ring, a.element(), b.element())?),
-        Call::Congruent(a, b, m) => Answer::Truth(congruent(
-            ring,
-            a.element(),
-            b.element(),
-            m.element(),
-        )?),
-    };
-    Ok(answer)
+    match call {
+        Call::Coordinates => Ok(Answer::Axes(ring.coordinates())),
+        Call::Sum(a, b) => ring.sum(a.into(), b.into()).map(Answer::Value),
+        Call::Product(a, b) => ring.product(a.into(), b.into()).map(Answer::Value),
+        Call::Norm(a) => ring.norm(a.into()).map(Answer::Number),
+        Call::IsUnit(a) => ring.is_unit(a.into()).map(Answer::Truth),
+        Call::CanonicalAssociate(a) => ring.canonical_associate(a.into()).map(Answer::Value),
+        Call::Divide(a, b) => divided(ring, a.into(), b.into()),
+        Call::Residue(a, m) => ring.residue(a.into(), m.into()).map(Answer::Value),
+        Call::CanonicalCount(n) => ring.canonical_count(n).map(Answer::Number),
+        Call::CanonicalElement(n, i) => ring.canonical_element(n, i).map(Answer::Value),
+        Call::CanonicalNumber(a) => ring.canonical_number(a.into()).map(Answer::Number),
+        Call::ResidueElement(m, i) => ring.residue_element(m.into(), i).map(Answer::Value),
+        Call::ResidueNumber(m, a) => ring.residue_number(m.into(), a.into()).map(Answer::Number),
+        Call::Gcd(a, b) => gcd(ring, a.into(), b.into()).map(Answer::Value),
+        Call::Congruent(a, b, m) => {
+            congruent(ring, a.into(), b.into(), m.into()).map(Answer::Truth)
+        }
+    }
 }

@@ -1,9 +1,8 @@
 //! Prints what the three rings answer at the edges of their calls.
 #![tactic(auto)]
 
-use eisenstein::Eisenstein;
-use gaussian::Gaussian;
 use integers::Integers;
+use planar::{EISENSTEIN, GAUSSIAN};
 use refusal::Refusal;
 use ring::Ring;
 use std::fmt::Display;
@@ -25,17 +24,16 @@ fn show<A: Display + Drop>(
 ) -> io::Result<()> {
     match answer {
         Ok(given) => println!(rt; "{name} {case} = {given}"),
-        Err(refusal) => {
-            let number = refusal.cause.number();
-            let place = refusal.place;
+        Err(Refusal { cause, place }) => {
+            let number = cause.number();
             println!(rt; "{name} {case} refused {number} at {place}")
         }
     }
 }
 
 fn show_calls<R: Ring>(rt: &impl Print, name: &str, ring: &R, calls: &[Call]) -> io::Result<()> {
-    for call in calls {
-        show(rt, name, *call, ask(ring, *call))?;
+    for &call in calls {
+        show(rt, name, call, ask(ring, call))?;
     }
     Ok(())
 }
@@ -51,18 +49,23 @@ fn show_point<R: Ring>(rt: &impl Print, name: &str, ring: &R, a: Point) -> io::R
 }
 
 fn show_table<R: Ring>(rt: &impl Print, name: &str, ring: &R, table: Table) -> io::Result<()> {
-    for a in table.points {
-        show_point(rt, name, ring, *a)?;
+    for &a in table.points {
+        show_point(rt, name, ring, a)?;
     }
-    show_calls(rt, name, ring, table.arithmetic)?;
-    show_calls(rt, name, ring, table.residues)?;
-    show_calls(rt, name, ring, table.canonical)?;
-    show_calls(rt, name, ring, table.ideals)
+    for calls in [
+        table.arithmetic,
+        table.residues,
+        table.canonical,
+        table.ideals,
+    ] {
+        show_calls(rt, name, ring, calls)?;
+    }
+    Ok(())
 }
 
 fn show_ring<R: Ring>(rt: &impl Print, name: &str, ring: &R, tables: &[Table]) -> io::Result<()> {
-    for table in tables {
-        show_table(rt, name, ring, *table)?;
+    for &table in tables {
+        show_table(rt, name, ring, table)?;
     }
     show(rt, name, "every canonical", trips::canonicals(ring))?;
     show(rt, name, "every residue", trips::residues(ring))
@@ -70,6 +73,6 @@ fn show_ring<R: Ring>(rt: &impl Print, name: &str, ring: &R, tables: &[Table]) -
 
 fn main(rt: HostRuntime) -> io::Result<()> {
     show_ring(&rt, "Z", &Integers, &[EVERY, LINE])?;
-    show_ring(&rt, "G", &Gaussian, &[EVERY, PLANE, SQUARE])?;
-    show_ring(&rt, "E", &Eisenstein, &[EVERY, PLANE, HEXAGONAL])
+    show_ring(&rt, "G", &GAUSSIAN, &[EVERY, PLANE, SQUARE])?;
+    show_ring(&rt, "E", &EISENSTEIN, &[EVERY, PLANE, HEXAGONAL])
 }

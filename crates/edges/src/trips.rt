@@ -7,7 +7,7 @@ use std::fmt;
 const LAST: u64 = 64;
 
 /// How many elements were asked for, how many did not come back, and the sum of their norms.
-#[derive(Clone, Copy)]
+#[derive(Clone, Copy, Default)]
 pub struct Tally {
     seen: u64,
     lost: u64,
@@ -15,18 +15,10 @@ pub struct Tally {
 }
 
 impl Tally {
-    const NONE: Tally = Tally {
-        seen: 0,
-        lost: 0,
-        norms: 0,
-    };
-
-    fn with(self, norm: u64, back: bool) -> Tally {
-        Tally {
-            seen: self.seen.saturating_add(1),
-            lost: self.lost.saturating_add(u64::from(!back)),
-            norms: self.norms.saturating_add(norm),
-        }
+    fn count(&mut self, norm: u64, back: bool) {
+        self.seen = self.seen.saturating_add(1);
+        self.lost = self.lost.saturating_add(u64::from(!back));
+        self.norms = self.norms.saturating_add(norm);
     }
 }
 
@@ -39,12 +31,12 @@ impl fmt::Display for Tally {
 
 /// The canonical elements of every norm that has a list.
 pub fn canonicals<R: Ring>(ring: &R) -> Result<Tally, Refusal> {
-    let mut tally = Tally::NONE;
+    let mut tally = Tally::default();
     for norm in 1..=LAST {
         for number in 0..ring.canonical_count(norm)? {
             let e = ring.canonical_element(norm, number)?;
             let back = ring.canonical_number(e)? == number && ring.norm(e)? == norm;
-            tally = tally.with(norm, back);
+            tally.count(norm, back);
         }
     }
     Ok(tally)
@@ -52,14 +44,14 @@ pub fn canonicals<R: Ring>(ring: &R) -> Result<Tally, Refusal> {
 
 /// The residues of every canonical modulus whose norm has a list.
 pub fn residues<R: Ring>(ring: &R) -> Result<Tally, Refusal> {
-    let mut tally = Tally::NONE;
+    let mut tally = Tally::default();
     for norm in 1..=LAST {
         for number in 0..ring.canonical_count(norm)? {
             let m = ring.canonical_element(norm, number)?;
             for place in 0..norm {
                 let e = ring.residue_element(m, place)?;
                 let back = ring.residue_number(m, e)? == place && ring.residue(e, m)? == e;
-                tally = tally.with(ring.norm(e)?, back);
+                tally.count(ring.norm(e)?, back);
             }
         }
     }

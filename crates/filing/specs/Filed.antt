@@ -5,8 +5,7 @@ use Rattle.ring.specs.declared.elements.Element.{Element}
 use Rattle.ring.specs.Meaning.{Meaning}
 use Rattle.ring.specs.Answers.{Meets}
 use Rattle.integers.specs.Integers.{integers}
-use Rattle.gaussian.specs.Gaussian.{gaussian_integers}
-use Rattle.eisenstein.specs.Eisenstein.{eisenstein_integers}
+use Rattle.planes.specs.Planes.{eisenstein_integers, gaussian_integers}
 use Rattle.text.specs.declared.request.RingName.{RingName}
 use Rattle.text.specs.declared.request.RingName.TheVariants.{Integers, Gaussian, Eisenstein}
 use Rattle.text.specs.declared.request.Matrix.{Matrix}

@@ -6,10 +6,9 @@ ghost use Rattle.filing.specs.Report.{report};
 ghost use Rattle.std.specs.Prelude.{Some};
 ghost use Rattle.text.specs.Written.{element_written};
 
-use eisenstein::Eisenstein;
-use gaussian::Gaussian;
 use integers::Integers;
 use location::{Location, locate_one};
+use planar::{EISENSTEIN, GAUSSIAN};
 use refusal::Refusal;
 use ring::{Coordinates, Element, Ring};
 use std::fmt;
@@ -26,10 +25,11 @@ pub struct Filed {
 pub fn place(ring: RingName, e: Element) -> Result<Location, Refusal>
     ensures { Placed ring e result }
 {
+    // By cases and not by `dyn Ring`, which would hide from the contract which ring answers.
     match ring {
         RingName::Integers => locate_one(&Integers, e),
-        RingName::Gaussian => locate_one(&Gaussian, e),
-        RingName::Eisenstein => locate_one(&Eisenstein, e),
+        RingName::Gaussian => locate_one(&GAUSSIAN, e),
+        RingName::Eisenstein => locate_one(&EISENSTEIN, e),
     }
 }
 

@@ -1,7 +1,7 @@
 -- What is answered before the first division, and that the first turn may begin.
-use Rattle.std.proofs.Common.{◌≡◌, ℕ, ◌^◌, ◌<◌, ◌≤◌, Ok, Err, Result, sym, ap, ◌∙◌, arith}
+use Rattle.std.proofs.Common.{◌≡◌, ℕ, ◌^◌, ◌≤◌, Ok, Err, Result, sym, ap, ◌∙◌, arith}
 use Rattle.refusal.specs.declared.Refusal.{Refusal}
-use Rattle.refusal.specs.declared.Cause.TheVariants.{Coordinate, Modulus as NoModulus}
+use Rattle.refusal.specs.declared.Cause.TheVariants.{Modulus as NoModulus}
 use Rattle.refusal.specs.Numbers.{refused, then}
 use Rattle.ring.specs.declared.elements.Coordinates.{Coordinates}
 use Rattle.ring.specs.declared.elements.Element.{Element}
@@ -12,7 +12,7 @@ use Rattle.ring.proofs.Checks.{passes, refuses}
 use Rattle.ring.proofs.Rings.{ops_ring}
 use Rattle.ideal.specs.Answers.{GeneratorAnswer, generator_check, size_check}
 use Rattle.ideal.proofs.Euclid.{same_start}
-use Rattle.ideal.proofs.Measured.{measured, not_measured, not_nought, nought, large, not_large}
+use Rattle.ideal.proofs.Measured.{measured, not_nought, nought, not_large}
 use Rattle.ideal.proofs.Turns.{Turn}
 
 -- k is what the ring says its coordinates are
@@ -20,17 +20,9 @@ module _ (m : Meaning) (l : Laws m) (k : Coordinates) (is : k ≡ m.coordinates)
   at_meaning : admitted k a ≡ admitted m.coordinates a
   at_meaning = ap (λ (j : Coordinates). admitted j a) is
 
-  pub refused_dividend : (x : Refusal) → Err x ≡ admitted k a → GeneratorAnswer m a b (Err x)
-  refused_dividend x h =
-      refuses (generator_check m a b) _ x (ap (λ (j : Result (Unit {0}) Refusal). then (then j (one_check m b)) (then (size_check m b) (divisor_check m b))) (sym (h ∙ at_meaning)))
-
   module _ (o : Ok tt ≡ admitted k a) where
     past_dividend : generator_check m a b ≡ then (one_check m b) (then (size_check m b) (divisor_check m b))
     past_dividend = ap (λ (j : Result (Unit {0}) Refusal). then (then j (one_check m b)) (then (size_check m b) (divisor_check m b))) (sym (o ∙ at_meaning))
-
-    pub refused_divisor : (x : Refusal) → Err x ≡ norm_answer m b → GeneratorAnswer m a b (Err x)
-    refused_divisor x h =
-        refuses (generator_check m a b) _ x (past_dividend ∙ ap (λ (j : Result (Unit {0}) Refusal). then j (then (size_check m b) (divisor_check m b))) (not_measured (admits m.coordinates reach b) (norm_of m b) x h))
 
     module _ (size : ℕ) (p : Ok size ≡ norm_answer m b) where
       fits : (one_check m b ≡ Ok tt) × (size ≡ norm_of m b)
@@ -38,10 +30,6 @@ module _ (m : Meaning) (l : Laws m) (k : Coordinates) (is : k ≡ m.coordinates)
 
       past_both : generator_check m a b ≡ then (size_check m b) (divisor_check m b)
       past_both = past_dividend ∙ passes (one_check m b) tt _ fits.0
-
-      pub refused_size : 2 ^ 29 < size → GeneratorAnswer m a b (Err (refused Coordinate 0))
-      refused_size h =
-          refuses (generator_check m a b) _ _ (past_both ∙ ap (λ (j : Result (Unit {0}) Refusal). then j (divisor_check m b)) (large m l b (omega (arith, fits.1))))
 
       module _ (h : size ≤ 2 ^ 29) where
         last_check : generator_check m a b ≡ divisor_check m b

@@ -13,7 +13,7 @@ use Rattle.ring.proofs.Checks.{meets, met, met_passes, met_refuses, refuses}
 use Rattle.ring.proofs.Places.{checked_modulus}
 use Rattle.ring.proofs.Rings.{ops_ring}
 use Rattle.ideal.specs.Answers.{CongruenceAnswer, congruence_check}
-use Rattle.ideal.proofs.Gates.{not_both, passed, passed_last, passed_other, refused_one, refused_pair}
+use Rattle.ideal.proofs.Gates.{not_both, passed, passed_last, passed_other, refused_pair}
 use Rattle.ideal.proofs.Residues.{residues_same, same_residue}
 
 -- `==` on elements
@@ -26,10 +26,6 @@ told r s t h =
 module _ (m : Meaning) (k : Coordinates) (is : k ≡ m.coordinates) (a b c : Element) where
   at_meaning : admitted k b ≡ admitted m.coordinates b
   at_meaning = ap (λ (j : Coordinates). admitted j b) is
-
-  pub out_of_limits : (x : Refusal) → Err x ≡ admitted k b → CongruenceAnswer m a b c (Err x)
-  out_of_limits x h =
-      refuses (congruence_check m a b c) _ x (refused_one (admits m.coordinates reach a) (admits m.coordinates reach b) (admits m.coordinates reach c) (modulus_check m c) x (sym (h ∙ at_meaning)))
 
   module _ (o : Ok tt ≡ admitted k b) where
     pub not_reduced : (x : Refusal) → ResidueAnswer m a c (Err x) → CongruenceAnswer m a b c (Err x)

@@ -21,12 +21,6 @@ all α β μ last = then (then (gate α) (gate β)) (then (gate μ) last)
 abbrev pair : Bool → Bool → Check → Check
 pair α μ last = then (then (gate α) (gate μ)) last
 
-pub refused_one : (α β μ : Bool) (last : Check) (x : Refusal) → gate β ≡ Err x → all α β μ last ≡ Err x
-refused_one true true μ last x h = absurd (not_both refl h)
-refused_one true false μ last x h = h
-refused_one false true μ last x h = absurd (not_both refl h)
-refused_one false false μ last x h = h
-
 pub refused_pair : (α β μ : Bool) (last : Check) (x : Refusal) → gate β ≡ Ok tt → pair α μ last ≡ Err x → all α β μ last ≡ Err x
 refused_pair true true true last x o h = h
 refused_pair true true false last x o h = h

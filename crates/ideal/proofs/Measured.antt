@@ -1,6 +1,6 @@
 -- What the norm of an element tells of the checks.
-use Rattle.std.proofs.Common.{◌≡◌, ℕ, ◌^◌, ◌<◌, ◌≤◌, Bool, true, false, cond, Ok, Err, refl, ap, ◌∙◌, inl, inr, arith}
-use Rattle.std.proofs.lemmas.Bool.{cases_Bool, le-leb, lt-leb}
+use Rattle.std.proofs.Common.{◌≡◌, ℕ, ◌^◌, ◌≤◌, Bool, true, false, cond, Ok, Err, refl, ap, ◌∙◌, inl, inr, arith}
+use Rattle.std.proofs.lemmas.Bool.{cases_Bool, le-leb}
 use Rattle.refusal.specs.declared.Refusal.{Refusal}
 use Rattle.refusal.specs.declared.Cause.TheVariants.{Coordinate, Modulus as NoModulus}
 use Rattle.refusal.specs.Numbers.{refuse, refused, then}
@@ -28,9 +28,6 @@ module _ (m : Meaning) (l : Laws m) (y : Element) where
 
   pub nought : norm_of m y ≡ 0 → divisor_check m y ≡ Err (refused NoModulus 0)
   nought h = ap (λ (t : Bool). cond t (refuse NoModulus) (Ok tt)) (same_zero m y (l.euclidean.zero_from_norm (value m.coordinates y) h))
-
-  pub large : 2 ^ 29 < norm_of m y → size_check m y ≡ Err (refused Coordinate 0)
-  large h = ap (λ (t : Bool). cond t (Ok tt) (refuse Coordinate)) (lt-leb (norm_of m y) (2 ^ 29) h)
 
   pub not_large : norm_of m y ≤ 2 ^ 29 → size_check m y ≡ Ok tt
   not_large h = ap (λ (t : Bool). cond t (Ok tt) (refuse Coordinate)) (le-leb (norm_of m y) (2 ^ 29) h)

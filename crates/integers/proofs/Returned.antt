@@ -6,10 +6,12 @@ use Rattle.std.specs.List.{slice_get}
 use Rattle.refusal.specs.declared.Refusal.{Refusal}
 use Rattle.refusal.specs.declared.Cause.TheVariants.{Outside, Modulus as NoModulus}
 use Rattle.refusal.specs.Numbers.{refuse, refused, then}
+use Rattle.ring.specs.declared.admitted.Admitted.{Admitted}
 use Rattle.ring.specs.declared.elements.Coordinates.TheVariants.{One}
 use Rattle.ring.specs.declared.elements.Division.{Division}
 use Rattle.ring.specs.declared.elements.Element.{Element}
-use Rattle.ring.specs.Elements.{admitted, element, same_whole}
+use Rattle.std.specs.Ordering.{int_eq}
+use Rattle.ring.specs.Elements.{admitted, at, element}
 use Rattle.ring.specs.Answers.{CanonicalAnswer, DivisionAnswer, ResidueAnswer, divisor_check, modulus_check, one_check, residue_element_answer, residue_number_answer, residue_place, two_check}
 use Rattle.ring.proofs.Checks.{meets, passes}
 use Rattle.ring.proofs.Places.{place_nth, place_none, same_refl, same_true}
@@ -25,10 +27,14 @@ module _ (a : Element) (p : Ok tt ≡ admitted One a) where
   pub canonical_is : (w : Element) → w ≡ whole (pos (nat_abs a.x)) → CanonicalAnswer integers a (Ok w)
   canonical_is w e = subst (λ (v : Element). CanonicalAnswer integers a (Ok v)) (sym e) (meets (one_check integers a) _ _ (sym p) (refl, size_associate a.x, (0, refl)))
 
+-- the check of a modulus sees its whole number alone
+pub modulus_is : (m : Element) (k : Admitted) → k.x ≡ m.x → Ok tt ≡ modulus_check integers (at k.x k.y) → Ok tt ≡ modulus_check integers m
+modulus_is m k e h = subst (λ (z : ℤ). Ok tt ≡ modulus_check integers (whole z)) e h
+
 two_pass : (a b : Element) → Ok tt ≡ admitted One a → Ok tt ≡ admitted One b → two_check integers a b ≡ Ok tt
 two_pass a b p q = passes (admitted One a) tt (admitted One b) (sym p) ∙ sym q
 
-not_nought : (x : ℤ) → 0 < nat_abs x → same_whole x (pos 0) ≡ false
+not_nought : (x : ℤ) → 0 < nat_abs x → int_eq x (pos 0) ≡ false
 not_nought (pos x) h = grind arith
 not_nought (negsuc x) h = refl
 
@@ -62,8 +68,8 @@ module _ (m a : Element) (p : Ok tt ≡ admitted One m) (q : Ok tt ≡ admitted 
 
   pub residue_number_is : (i : ℕ) → a.x ≡ pos i → i < nat_abs m.x → residue_number_answer integers m a ≡ Ok i
   residue_number_is i e h =
-      placed_answer ∙ ap number_answer (place_nth (same_whole) (same_true One) (same_refl One) a.x (residues m.x) i (residue_at m.x i h ∙ ap Some (sym e)) (λ j l. let f = residue_listed m.x a.x j l in omega (arith, ap nat_abs f.1, ap nat_abs e)))
+      placed_answer ∙ ap number_answer (place_nth (int_eq) (same_true One) (same_refl One) a.x (residues m.x) i (residue_at m.x i h ∙ ap Some (sym e)) (λ j l. let f = residue_listed m.x a.x j l in omega (arith, ap nat_abs f.1, ap nat_abs e)))
 
   pub residue_number_none : ((i : ℕ) → a.x ≡ pos i → i < nat_abs m.x → ⊥) → residue_number_answer integers m a ≡ Err (refused Outside 0)
   residue_number_none h =
-      placed_answer ∙ ap number_answer (place_none (same_whole) (same_true One) (same_refl One) a.x (residues m.x) (λ i l. let f = residue_listed m.x a.x i l in h i f.1 f.0))
+      placed_answer ∙ ap number_answer (place_none (int_eq) (same_true One) (same_refl One) a.x (residues m.x) (λ i l. let f = residue_listed m.x a.x i l in h i f.1 f.0))

@@ -7,7 +7,7 @@ use Rattle.std.proofs.lemmas.List.FromFn.{length-map-range_with_len}
 use Rattle.algebra.specs.Integers.{ℤ_ops}
 use Rattle.algebra.specs.Euclidean.{EuclideanLaws, Canonical, Listed, Modulus}
 use Rattle.ring.specs.Meaning.{Laws}
-use Rattle.algebra.proofs.Whole.{nat_abs_mul}
+use Rattle.std.proofs.lemmas.Int.{unsigned_abs-mul}
 use Rattle.integers.specs.Integers.{canonical, integers, residues}
 use Rattle.algebra.proofs.Whole.{zero_from_unsigned_abs}
 use Rattle.integers.specs.Signs.{size_apart, no_zero_divisors, unit_size, unit_from_size, units, size_associate, same_size}
@@ -33,7 +33,7 @@ euclidean_laws = record {
   no_zero_divisors = no_zero_divisors;
   norm-zero = refl;
   zero_from_norm = zero_from_unsigned_abs;
-  norm-mul = nat_abs_mul;
+  norm-mul = unsigned_abs-mul;
   division = λ a b h. (int_div_euclid a b, int_rem_euclid a b, record { sum = divided a b (size_apart b h); smaller = remainder_small a b (size_apart b h) });
   norm_unit = unit_size;
   unit_from_norm = unit_from_size;

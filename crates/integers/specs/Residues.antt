@@ -5,12 +5,11 @@ use Rattle.std.specs.List.{range_with_len, slice_get}
 use Rattle.std.specs.Int.{int_div_euclid, int_rem_euclid}
 use Rattle.std.proofs.lemmas.List.FromFn.{length-map-range_with_len}
 use Rattle.std.proofs.lemmas.Option.{slice_get_past}
-use Rattle.std.proofs.lemmas.Int.{ints}
+use Rattle.std.proofs.lemmas.Int.{ints, unsigned_abs-mul}
 use Rattle.std.proofs.lemmas.Bool.{cases_lt}
 use Rattle.algebra.specs.Integers.{ℤ_ops}
 use Rattle.algebra.specs.Divisors.{Congruent}
 use Rattle.algebra.specs.Euclidean.{Listed}
-use Rattle.algebra.proofs.Whole.{nat_abs_mul}
 use Rattle.integers.specs.Integers.{residues}
 use Rattle.algebra.proofs.Euclid.{divided, remainder_natural, remainder_small}
 
@@ -35,7 +34,7 @@ small_multiple k (suc q) m e h = absurd (let p : 1 * m ≤ suc q * m = mul-le-mu
 
 residues_apart : (m : ℤ) (i j : ℕ) → i < unsigned_abs m → j < unsigned_abs m → Congruent ℤ_ops m (pos i) (pos j) → i ≡ j
 residues_apart m i j g h c =
-    let e = small_multiple (unsigned_abs (pos i +ℤ neg_ℤ (pos j))) (unsigned_abs c.0) (unsigned_abs m) (ap unsigned_abs c.1 ∙ nat_abs_mul c.0 m) (omega (arith, ints)) in
+    let e = small_multiple (unsigned_abs (pos i +ℤ neg_ℤ (pos j))) (unsigned_abs c.0) (unsigned_abs m) (ap unsigned_abs c.1 ∙ unsigned_abs-mul c.0 m) (omega (arith, ints)) in
     omega (arith, ints)
 
 pub residues_once : (m : ℤ) (i j : ℕ) (r s : ℤ) → slice_get (residues m) i ≡ Some r → slice_get (residues m) j ≡ Some s → Congruent ℤ_ops m r s → i ≡ j

@@ -16,18 +16,13 @@ use Rattle.ring.specs.Elements.{Member, Within, admits, admitted, element, norm_
 use Rattle.ring.specs.Answers.{CanonicalAnswer, Meets, canonical_number_answer, canonical_place, count_answer, is_zero, norm_answer, norm_of, one_check}
 use Rattle.ring.specs.Meaning.{Laws, Meaning}
 use Rattle.ring.proofs.Places.{nth_place, place-Listed, same_refl, same_true, same_zero, zero_same}
-use Rattle.location.specs.Located.{LocatedAt, Located, entry_check, index_check, location_check, singular_check}
+use Rattle.location.specs.Located.{LocatedAt, Located, index_check, location_check, singular_check}
 
 no_fault : {X E : Type 0} (e : E) (x : X) → Err e ≡ Ok x → ⊥
 no_fault e x h = let z : ◌≡◌ {A = ℕ} 0 1 = cc in omega arith
 
 same_ok : {X E : Type 0} {x y : X} → ◌≡◌ {A = Result X E} (Ok x) (Ok y) → x ≡ y
 same_ok h = cc
-
--- checks that pass
-passes : (b : Bool) (c : Cause) (u : Unit {0}) → Ok u ≡ cond b (Ok tt) (refuse c) → b ≡ true
-passes true c u h = refl
-passes false c u h = absurd (no_fault (refused c 0) u (sym h))
 
 then_is : {X : Type 0} (r : Result (Unit {0}) Refusal) (x y : X) → Ok x ≡ then r (Ok y) → x ≡ y
 then_is (Ok u) x y h = cc
@@ -50,16 +45,13 @@ admits_small One f n l m w =
     and_from _ _ (wider (nat_abs f.x) n reach l (le-leb _ _ w.x_bound)) (rw z)
 admits_small (Two s t) f n l m w = and_from _ _ (wider (nat_abs f.x) n reach l (le-leb _ _ w.x_bound)) (wider (nat_abs f.y) n reach l (le-leb _ _ w.y_bound))
 
--- k, u and n are what the ring answered
-module _ (m : Meaning) (laws : Laws m) (e : Element) (k : Coordinates) (is : k ≡ m.coordinates) (u : Unit {0}) (entry : Ok u ≡ entry_check k e) where
+-- k and n are what the ring answered
+module _ (m : Meaning) (laws : Laws m) (e : Element) (k : Coordinates) (is : k ≡ m.coordinates) (entry : true ≡ admits k 99 e) where
   entry_admits : admits m.coordinates 99 e ≡ true
-  entry_admits = subst (λ (j : Coordinates). admits j 99 e ≡ true) is (passes _ Coordinate u entry)
+  entry_admits = subst (λ (j : Coordinates). admits j 99 e ≡ true) is (sym entry)
 
   entry_reach : admitted m.coordinates e ≡ Ok tt
   entry_reach = cond-true _ _ _ (reach_from m.coordinates e entry_admits)
-
-  pub norm_passes : (f : Refusal) → Err f ≡ norm_answer m e → ⊥
-  norm_passes f q = no_fault f (norm_of m e) (q ∙ ap (λ (r : Result (Unit {0}) Refusal). then r (Ok (norm_of m e))) entry_reach)
 
   after_entry : location_check m e ≡ then (singular_check m e) (index_check m e)
   after_entry = ap (λ (b : Bool). then (cond b (Ok tt) (refuse Coordinate)) (then (singular_check m e) (index_check m e))) entry_admits

@@ -1,11 +1,10 @@
 //! Where a lattice of rank 1 stands among those of its index.
 #![tactic(auto)]
 
-ghost use Rattle.location.specs.Located.{Located, entry_check};
-ghost use Rattle.std.specs.Prelude.{◌≡◌};
+ghost use Rattle.location.specs.Located.{Located};
 
 use refusal::{Cause, Refusal};
-use ring::{Coordinates, Element, Ring, within};
+use ring::{Element, Ring};
 
 /// The largest coordinate of an entry.
 const ENTRY: u64 = 99;
@@ -22,36 +21,26 @@ pub struct Location {
     pub form: Element,
 }
 
-// Refuses an entry with a coordinate that is too large, or with a second one in a ring that has none.
-fn admit_entry(k: Coordinates, e: Element) -> Result<(), Refusal>
-    ensures { result ≡ entry_check k e }
-{
-    if within(k, ENTRY, e) {
-        Ok(())
-    } else {
-        Err(Refusal::of(Cause::Coordinate))
-    }
-}
-
 /// The multiples of `e`: their index is its norm, and their form its canonical associate.
 pub fn locate_one<R: Ring>(ring: &R, e: Element) -> Result<Location, Refusal>
-    ensures { Located R.Ring.meaning e result }
+    ensures { Located R.meaning e result }
 {
-    admit_entry(ring.coordinates(), e)?;
+    // Entries are small, and have no second coordinate in a ring with one.
+    if !ring.coordinates().within(ENTRY, e) {
+        return Err(Cause::Coordinate.into());
+    }
     let index = ring.norm(e)?;
     if index == 0 {
-        return Err(Refusal::of(Cause::Singular));
+        return Err(Cause::Singular.into());
     }
     if index > INDEX {
-        return Err(Refusal::of(Cause::Outside));
+        return Err(Cause::Outside.into());
     }
     let form = ring.canonical_associate(e)?;
-    let sublattices = ring.canonical_count(index)?;
-    let lattice = ring.canonical_number(form)?;
     Ok(Location {
         index,
-        sublattices,
-        lattice,
+        sublattices: ring.canonical_count(index)?,
+        lattice: ring.canonical_number(form)?,
         form,
     })
 }

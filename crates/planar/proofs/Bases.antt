@@ -1,5 +1,5 @@
 -- What a basis of the multiples of a modulus is good for.
-use Rattle.std.proofs.Common.{◌≡◌, ℕ, zero, suc, ◌+◌, ◌*◌, ◌/◌, ◌^◌, ◌<◌, ◌≤◌, ℤ, pos, ◌-ℤ◌, ◌*ℤ◌, nat_abs, sym, ◌∙◌, subst, ap₂, mul-le-mul, arith}
+use Rattle.std.proofs.Common.{◌≡◌, ℕ, zero, suc, ◌+◌, ◌*◌, ◌/◌, ◌<◌, ◌≤◌, ℤ, pos, ◌-ℤ◌, ◌*ℤ◌, nat_abs, sym, ◌∙◌, subst, ap₂, mul-le-mul, arith}
 use Rattle.std.specs.Int.{int_div_euclid, int_rem_euclid}
 use Rattle.algebra.specs.Divisors.{Congruent, Divides}
 use Rattle.algebra.specs.Euclidean.{Listed}
@@ -11,46 +11,32 @@ use Rattle.planes.specs.declared.Plane.{Plane}
 use Rattle.planes.specs.Planes.{content, norm, pair, residues, width}
 use Rattle.planes.proofs.Division.{arithmetic}
 use Rattle.planes.proofs.Residues.{content_positive, norm_width, residue_congruent, residue_nth, width_positive}
-use Rattle.planar.specs.declared.residues.Basis.{Basis}
-use Rattle.planar.specs.Basis.{IsBasis, Multiple}
+use Rattle.planar.specs.declared.basis.Basis.{Basis}
+use Rattle.planar.specs.Basis.{IsBasis}
 
-width_low : (n g w : ℕ) → 0 < g → n ≡ g * w → w ≤ n
+pub width_low : (n g w : ℕ) → 0 < g → n ≡ g * w → w ≤ n
 width_low n (suc g) w h e = omega (arith, e)
 width_low n zero w h e = absurd (omega (arith, h))
 
+-- what the norm and the content of a modulus tell of its basis
 module _ (p : Plane) (m : Element) (n y : ℕ) (size : n ≡ norm p (pair m.x m.y)) (some : 0 < n) (e : y ≡ content (pair m.x m.y)) where
-  abbrev z : Quad ℤ
-  z = pair m.x m.y
-
-  positive : 0 < norm p z
+  positive : 0 < norm p (pair m.x m.y)
   positive = subst (λ (k : ℕ). 0 < k) size some
 
   pub content_some : 0 < y
-  content_some = subst (λ (k : ℕ). 0 < k) (sym e) (content_positive p z positive)
+  content_some = subst (λ (k : ℕ). 0 < k) (sym e) (content_positive p (pair m.x m.y) positive)
 
-  width_is : n / y ≡ width p z
+  pub width_is : n / y ≡ width p (pair m.x m.y)
   width_is = ap₂ ◌/◌ size e
 
-  product : n ≡ y * (n / y)
-  product = size ∙ norm_width p z positive ∙ ap₂ ◌*◌ (sym e) (sym width_is)
+  pub width_some : 0 < n / y
+  width_some = subst (λ (k : ℕ). 0 < k) (sym width_is) (width_positive p (pair m.x m.y) positive)
 
-  pub basis : (x : ℤ) → Multiple p m x y → nat_abs x ≤ 2 ^ 62 → y ≤ 2 ^ 30 → n ≤ 3 * 2 ^ 60 → IsBasis p m (record { step = x; content = y; width = n / y; norm = n })
-  basis x s bx by few = record {
-    step = s;
-    content_is = e;
-    width_is = width_is;
-    norm_is = size;
-    few = few;
-    content_some = content_some;
-    width_some = subst (λ (k : ℕ). 0 < k) (sym width_is) (width_positive p z positive);
-    width_few = let h = width_low n y (n / y) content_some product in omega (arith, h, few);
-    product = product;
-    step_bound = bx;
-    content_bound = by;
-  }
+  pub product : n ≡ y * (n / y)
+  product = size ∙ norm_width p (pair m.x m.y) positive ∙ ap₂ ◌*◌ (sym e) (sym width_is)
 
 pub nonzero : (p : Plane) (m : Element) (b : Basis) → IsBasis p m b → 0 < norm p (pair m.x m.y)
-nonzero p m b is = go b.content b.width is.content_some is.width_some (sym is.norm_is ∙ is.product)
+nonzero p m b is = go b.content b.width b.content_some b.width_some (sym is.norm_is ∙ b.product)
   where
     go : (g w : ℕ) → 0 < g → 0 < w → norm p (pair m.x m.y) ≡ g * w → 0 < norm p (pair m.x m.y)
     go g w i j e = let l : 1 * 1 ≤ g * w = mul-le-mul {n₁ = 1} {m₁ = 1} i j in omega (arith, l, e)
@@ -79,10 +65,10 @@ module _ (p : Plane) (m : Element) (b : Basis) (is : IsBasis p m b) (a r : Eleme
   step_there = subst (λ (g : ℕ). Divides (arithmetic p) z' (pair b.step (pos g))) is.content_is is.step
 
   second : Floor a.y (content z') h v
-  second = subst (λ (g : ℕ). Floor a.y g h v) is.content_is (floor_euclid a.y b.content is.content_some)
+  second = subst (λ (g : ℕ). Floor a.y g h v) is.content_is (floor_euclid a.y b.content b.content_some)
 
   first : Floor (a.x -ℤ h *ℤ b.step) (width p z') k u
-  first = subst (λ (w : ℕ). Floor (a.x -ℤ h *ℤ b.step) w k u) is.width_is (floor_euclid (a.x -ℤ h *ℤ b.step) b.width is.width_some)
+  first = subst (λ (w : ℕ). Floor (a.x -ℤ h *ℤ b.step) w k u) is.width_is (floor_euclid (a.x -ℤ h *ℤ b.step) b.width b.width_some)
 
   pub congruent : Congruent (arithmetic p) z' (pair a.x a.y) (pair r.x r.y)
   congruent = subst (Congruent (arithmetic p) z' (pair a.x a.y)) (sym reduced_is) (residue_congruent p z' (nonzero p m b is) b.step step_there (pair a.x a.y) h k u v second first)

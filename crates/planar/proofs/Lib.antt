@@ -1,8 +1,10 @@
 pub mod Forms
 pub mod Turns
 pub mod Wide
+pub mod Sums
 pub mod Rounding
 pub mod Rounded
-pub mod Rows
+pub mod Multiples
 pub mod Bases
 pub mod Numbered
+pub mod Admission

@@ -14,10 +14,16 @@ use Rattle.ring.proofs.Places.{both, place_none, place_nth, same_refl, same_true
 use Rattle.planes.specs.declared.Plane.{Plane}
 use Rattle.planes.specs.Planes.{axes, content, norm, pair, plane, residues, width}
 use Rattle.planes.proofs.Numbering.{listed_shape, none_past_norm, residue_of_number, residue_there, residues_once}
-use Rattle.planar.specs.declared.residues.Basis.{Basis}
+use Rattle.planar.specs.declared.basis.Basis.{Basis}
 use Rattle.planar.specs.Basis.{IsBasis}
 use Rattle.planar.specs.Numbering.{number_at, number_of}
 use Rattle.planar.proofs.Bases.{nonzero}
+
+below : (x w : ℕ) → ltb x w ≡ true → x < w
+below x w h = grind arith
+
+apart : (x y w g : ℕ) → x < w → y < g → (ltb x w && ltb y g) ≡ false → ⊥
+apart x y w g h k e = grind arith
 
 module _ (p : Plane) (m : Element) (b : Basis) (is : IsBasis p m b) (checked : modulus_check (plane p) m ≡ Ok tt) (admits : Ok tt ≡ one_check (plane p) m) where
   abbrev z : Quad ℤ
@@ -48,15 +54,12 @@ module _ (p : Plane) (m : Element) (b : Basis) (is : IsBasis p m b) (checked : m
       go : (t : Bool) → (ltb x (width p z) && ltb y (content z)) ≡ t → place (same (axes p)) (pair (pos x) (pos y)) (residues p z) ≡ cond t (Some (y * width p z + x)) None
       go true e =
           let k = both (ltb x (width p z)) (ltb y (content z)) e in
-          let h : x < width p z = let i = k.0 in grind arith in
-          let l : y < content z = let i = k.1 in grind arith in
+          let h = below x (width p z) k.0 in
+          let l = below y (content z) k.1 in
           let there = residue_there p z positive x y h l in
           place_nth (same (axes p)) (same_true (axes p)) (same_refl (axes p)) (pair (pos x) (pos y)) (residues p z) (y * width p z + x) there (λ j i. residues_once p z positive j (y * width p z + x) (pair (pos x) (pos y)) i there)
       go false e =
           place_none (same (axes p)) (same_true (axes p)) (same_refl (axes p)) (pair (pos x) (pos y)) (residues p z) (λ j i. let s = listed_shape p z positive j (pair (pos x) (pos y)) i in absurd (apart x y (width p z) (content z) (subst (λ (n : ℕ). n < width p z) (sym (ap nat_abs s.re)) s.column) (subst (λ (n : ℕ). n < content z) (sym (ap nat_abs s.im)) s.row) e))
-        where
-          apart : (x y w g : ℕ) → x < w → y < g → (ltb x w && ltb y g) ≡ false → ⊥
-          apart x y w g h k e = grind arith
   place_is (pos x) (negsuc y) =
       place_none (same (axes p)) (same_true (axes p)) (same_refl (axes p)) (pair (pos x) (negsuc y)) (residues p z) (λ j i. let s = (listed_shape p z positive j (pair (pos x) (negsuc y)) i).im in let n : ◌≡◌ {A = ℕ} 0 1 = cc in omega (arith, n))
   place_is (negsuc x) y =

@@ -1,8 +1,7 @@
 -- Numbers of 128 bits.
-use Rattle.std.proofs.Common.{◌≡◌, ◌^◌, ◌≤◌, ℤ, ◌*ℤ◌, nat_abs, mul-le-mul, arith, w64, SFits, to_z, of_z}
+use Rattle.std.proofs.Common.{◌≡◌, ◌*◌, ◌^◌, ◌≤◌, ℤ, ◌+ℤ◌, ◌-ℤ◌, nat_abs, arith, w64, SFits, to_z, of_z}
 use mir.Syntax.{w128}
 use Rattle.std.proofs.lemmas.Int.{ints, to_z-of_z}
-use Rattle.algebra.proofs.Whole.{nat_abs_mul}
 use Rattle.ring.proofs.Limits.{back}
 
 pub wide_fits : (z : ℤ) → nat_abs z ≤ 2 ^ 126 → SFits w128 z
@@ -11,13 +10,38 @@ wide_fits z h = omega (arith, ints)
 pub wide_back : (z : ℤ) → nat_abs z ≤ 2 ^ 126 → to_z w128 (of_z w128 z) ≡ z
 wide_back z h = to_z-of_z w128 z (wide_fits z h)
 
-pub wide_product : (a b : ℤ) → nat_abs a ≤ 2 ^ 62 → nat_abs b ≤ 2 ^ 62 → nat_abs (a *ℤ b) ≤ 2 ^ 124
-wide_product a b h k = rw nat_abs_mul (mul-le-mul h k)
+-- sums and differences as the code computes them
+module _ (u v : ℤ) (p : nat_abs u ≤ 2 ^ 124) (q : nat_abs v ≤ 2 ^ 124) where
+  eu : to_z w128 (of_z w128 u) ≡ u
+  eu = wide_back u (omega arith)
 
-pub wide_product_is : (a b : ℤ) → nat_abs a ≤ 2 ^ 62 → nat_abs b ≤ 2 ^ 62 → to_z w128 (of_z w128 (to_z w128 (of_z w128 (to_z w64 (of_z w64 a))) *ℤ to_z w128 (of_z w128 (to_z w64 (of_z w64 b))))) ≡ a *ℤ b
-wide_product_is a b h k =
-    let e = back a h in
-    let f = back b k in
-    let g = wide_back a (omega arith) in
-    let i = wide_back b (omega arith) in
-    rw (e, f, g, i) (wide_back (a *ℤ b) (omega (arith, wide_product a b h k)))
+  ev : to_z w128 (of_z w128 v) ≡ v
+  ev = wide_back v (omega arith)
+
+  pub wide_difference_fits : SFits w128 (to_z w128 (of_z w128 u) -ℤ to_z w128 (of_z w128 v))
+  wide_difference_fits = rw (eu, ev) (wide_fits (u -ℤ v) (omega (arith, ints)))
+
+  pub wide_difference : to_z w128 (of_z w128 (to_z w128 (of_z w128 u) -ℤ to_z w128 (of_z w128 v))) ≡ u -ℤ v
+  wide_difference = rw (eu, ev) (wide_back (u -ℤ v) (omega (arith, ints)))
+
+  pub wide_sum : to_z w128 (of_z w128 (to_z w128 (of_z w128 u) +ℤ to_z w128 (of_z w128 v))) ≡ u +ℤ v
+  wide_sum = rw (eu, ev) (wide_back (u +ℤ v) (omega (arith, ints)))
+
+  module _ (z : ℤ) (r : nat_abs z ≤ 2 ^ 124) where
+    pub wide_sum_less_fits : SFits w128 (to_z w128 (of_z w128 (to_z w128 (of_z w128 u) +ℤ to_z w128 (of_z w128 v))) -ℤ to_z w128 (of_z w128 z))
+    wide_sum_less_fits =
+        let e = wide_back z (omega arith) in
+        rw (wide_sum, e) (wide_fits (u +ℤ v -ℤ z) (omega (arith, ints)))
+
+    pub wide_sum_less : to_z w128 (of_z w128 (to_z w128 (of_z w128 (to_z w128 (of_z w128 u) +ℤ to_z w128 (of_z w128 v))) -ℤ to_z w128 (of_z w128 z))) ≡ u +ℤ v -ℤ z
+    wide_sum_less =
+        let e = wide_back z (omega arith) in
+        rw (wide_sum, e) (wide_back (u +ℤ v -ℤ z) (omega (arith, ints)))
+
+-- a small difference fits 64 bits
+pub narrowed : (u v : ℤ) → nat_abs u ≤ 2 ^ 62 → nat_abs v ≤ 3 * 2 ^ 124 → nat_abs (u -ℤ v) ≤ 2 ^ 62 → to_z w64 (of_z w64 (to_z w128 (of_z w128 (to_z w128 (of_z w128 u) -ℤ to_z w128 (of_z w128 v))))) ≡ u -ℤ v
+narrowed u v p q r =
+    let e = wide_back u (omega arith) in
+    let f = wide_back v (omega arith) in
+    let g = wide_back (u -ℤ v) (omega (arith, r)) in
+    rw (e, f, g) (back (u -ℤ v) r)

@@ -1,3 +1,4 @@
 pub mod Division
+pub mod Rows
 pub mod Basis
 pub mod Numbering

@@ -1,92 +1,106 @@
 //! Division by rounding to the nearest element.
-ghost use Rattle.std.specs.Prelude.{◌≡◌, ◌*◌, ◌^◌, ◌<◌, ◌≤◌, ◌-ℤ◌, unsigned_abs};
+ghost use Rattle.std.specs.Prelude.{◌≡◌, ◌*◌, ◌^◌, ◌≤◌, ◌-ℤ◌, ◌*ℤ◌, unsigned_abs};
 ghost use Rattle.planar.specs.Division.{Divided};
-ghost use Rattle.planes.specs.Planes.{Nearest, left_over, norm as norm_in, over, pair, plane};
-ghost use Rattle.ring.specs.Elements.{Within, reach};
+ghost use Rattle.planes.specs.Planes.{Nearest, left_over, over, pair, plane as plane_of};
+ghost use Rattle.ring.specs.Elements.{Within, at};
 
-use super::whole::{minus, narrow, plus, times, wide_minus, wide_plus, wide_times};
+use super::divisor::Divisor;
 use planes::Plane;
-use ring::{Division, Element};
+use ring::{Admitted, Division, Element};
 
-/// a times the conjugate of b: the quotient times the norm of b.
-fn over_of(p: Plane, a: Element, b: Element) -> Element
-    requires { (Within reach a) × (Within reach b) }
-    ensures value { pair result.x result.y ≡ over p (pair a.x a.y) (pair b.x b.y) }
-    ensures bound { Within (3 * 2 ^ 60) result }
+/// A product that needs more than 64 bits.
+// Its factors are rounded quotients, coordinates of rows and of elements: a type for their common limit would be made and
+// taken apart at each call.
+pub(super) fn wide_times(a: i64, b: i64) -> i128
+    requires a_small { unsigned_abs a ≤ 2 ^ 62 }
+    requires b_small { unsigned_abs b ≤ 2 ^ 62 }
+    ensures value { result ≡ a *ℤ b }
+    ensures bound { unsigned_abs result ≤ 2 ^ 124 }
 {
-    let straight = plus(times(a.x, b.x), times(a.y, b.y));
-    let y = minus(times(a.y, b.x), times(a.x, b.y));
-    match p {
-        Plane::Square => Element { x: straight, y },
-        Plane::Hexagonal => Element {
-            x: minus(straight, times(a.x, b.y)),
-            y,
-        },
-    }
-}
-
-/// The whole number nearest to z / n.
-fn nearest(z: i64, n: u64) -> i64
-    requires { (unsigned_abs z ≤ 3 * 2 ^ 60) × ((0 < n) × (n ≤ 3 * 2 ^ 60)) }
-    ensures value { Nearest z n result }
-    ensures bound { unsigned_abs result ≤ 2 ^ 62 }
-{
-    let n = n as i64;
-    let below = z.div_euclid(n);
-    let rest = z.rem_euclid(n);
-    if rest > n - rest { below + 1 } else { below }
-}
-
-/// The nearest whole coordinates of z / n.
-fn both_nearest(z: Element, n: u64) -> Element
-    requires { (Within (3 * 2 ^ 60) z) × ((0 < n) × (n ≤ 3 * 2 ^ 60)) }
-    ensures x { Nearest z.x n result.x }
-    ensures y { Nearest z.y n result.y }
-    ensures bound { Within (2 ^ 62) result }
-{
-    Element {
-        x: nearest(z.x, n),
-        y: nearest(z.y, n),
-    }
-}
-
-/// What is left of a without q times b, where it is known to be small.
-fn left_over_of(p: Plane, a: Element, b: Element, q: Element) -> Element
-    requires within { (Within reach a) × ((Within reach b) × (Within (2 ^ 62) q)) }
-    requires little_left { (unsigned_abs (left_over p (pair a.x a.y) (pair b.x b.y) (pair q.x q.y)).re ≤ 2 ^ 62) × (unsigned_abs (left_over p (pair a.x a.y) (pair b.x b.y) (pair q.x q.y)).im ≤ 2 ^ 62) }
-    ensures { pair result.x result.y ≡ left_over p (pair a.x a.y) (pair b.x b.y) (pair q.x q.y) }
-{
-    let square = wide_times(q.y, b.y);
-    let x = wide_minus(wide_times(q.x, b.x), square);
-    let cross = wide_plus(wide_times(q.x, b.y), wide_times(q.y, b.x));
-    match p {
-        Plane::Square => less(a, x, cross),
-        Plane::Hexagonal => less(a, x, wide_minus(cross, square)),
-    }
+    i128::from(a) * i128::from(b)
 }
 
 /// a without (x, y), where little is left.
-fn less(a: Element, x: i128, y: i128) -> Element
-    requires within { (Within reach a) × ((unsigned_abs x ≤ 2 ^ 125) × (unsigned_abs y ≤ 3 * 2 ^ 124)) }
-    requires little_left { (unsigned_abs (a.x -ℤ x) ≤ 2 ^ 62) × (unsigned_abs (a.y -ℤ y) ≤ 2 ^ 62) }
+fn less(a: Admitted, x: i128, y: i128) -> Element
+    requires x_small { unsigned_abs x ≤ 2 ^ 125 }
+    requires y_small { unsigned_abs y ≤ 3 * 2 ^ 124 }
+    requires little_x { unsigned_abs (a.x -ℤ x) ≤ 2 ^ 62 }
+    requires little_y { unsigned_abs (a.y -ℤ y) ≤ 2 ^ 62 }
     ensures { pair result.x result.y ≡ pair (a.x -ℤ x) (a.y -ℤ y) }
 {
     Element {
-        x: narrow(wide_minus(a.x as i128, x)),
-        y: narrow(wide_minus(a.y as i128, y)),
+        x: (i128::from(a.x) - x) as i64,
+        y: (i128::from(a.y) - y) as i64,
     }
 }
 
-/// The nearest quotient, and the remainder that it leaves.
-pub(super) fn rounded(p: Plane, a: Element, b: Element, norm: u64) -> Division
-    requires within { (Within reach a) × (Within reach b) }
-    requires norm_value { (norm ≡ norm_in p (pair b.x b.y)) × ((0 < norm) × (norm ≤ 3 * 2 ^ 60)) }
-    ensures { Divided (plane p) a b result }
-{
-    let quotient = both_nearest(over_of(p, a, b), norm);
-    let remainder = left_over_of(p, a, b, quotient);
-    Division {
-        quotient,
-        remainder,
+impl Divisor {
+    /// a times the conjugate of the divisor: the quotient times the divisor's norm.
+    fn over(self, a: Admitted) -> Element
+        ensures value { pair result.x result.y ≡ over self.plane (pair a.x a.y) (pair self.element.x self.element.y) }
+        ensures bound { Within (3 * 2 ^ 60) result }
+    {
+        let products = a.products(self.element);
+        let straight = products.xx + products.yy;
+        let y = products.yx - products.xy;
+        match self.plane {
+            Plane::Square => Element { x: straight, y },
+            Plane::Hexagonal => Element {
+                x: straight - products.xy,
+                y,
+            },
+        }
+    }
+
+    /// The whole number nearest to z by the norm.
+    fn nearest(self, z: i64) -> i64
+        requires { unsigned_abs z ≤ 3 * 2 ^ 60 }
+        ensures value { Nearest z self.norm result }
+        ensures bound { unsigned_abs result ≤ 2 ^ 62 }
+    {
+        let n = self.norm as i64;
+        let below = z.div_euclid(n);
+        let rest = z.rem_euclid(n);
+        if rest > n - rest { below + 1 } else { below }
+    }
+
+    /// The nearest quotient.
+    fn quotient(self, a: Admitted) -> Element
+        ensures x { Nearest (over self.plane (pair a.x a.y) (pair self.element.x self.element.y)).re self.norm result.x }
+        ensures y { Nearest (over self.plane (pair a.x a.y) (pair self.element.x self.element.y)).im self.norm result.y }
+        ensures bound { Within (2 ^ 62) result }
+    {
+        let over = self.over(a);
+        Element {
+            x: self.nearest(over.x),
+            y: self.nearest(over.y),
+        }
+    }
+
+    /// What is left of a without q times the divisor, where it is known to be small.
+    fn left_over(self, a: Admitted, q: Element) -> Element
+        requires q_small { Within (2 ^ 62) q }
+        requires little_left { Within (2 ^ 62) (at (left_over self.plane (pair a.x a.y) (pair self.element.x self.element.y) (pair q.x q.y)).re (left_over self.plane (pair a.x a.y) (pair self.element.x self.element.y) (pair q.x q.y)).im) }
+        ensures { pair result.x result.y ≡ left_over self.plane (pair a.x a.y) (pair self.element.x self.element.y) (pair q.x q.y) }
+    {
+        let b = self.element;
+        let square = wide_times(q.y, b.y);
+        let x = wide_times(q.x, b.x) - square;
+        let cross = wide_times(q.x, b.y) + wide_times(q.y, b.x);
+        match self.plane {
+            Plane::Square => less(a, x, cross),
+            Plane::Hexagonal => less(a, x, cross - square),
+        }
+    }
+
+    /// The nearest quotient, and the remainder that it leaves.
+    pub(super) fn divide(self, a: Admitted) -> Division
+        ensures { Divided (plane_of self.plane) (at a.x a.y) (at self.element.x self.element.y) result }
+    {
+        let quotient = self.quotient(a);
+        Division {
+            quotient,
+            remainder: self.left_over(a, quotient),
+        }
     }
 }

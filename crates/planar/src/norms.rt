@@ -1,38 +1,40 @@
-//! Norms and sectors of elements within the limits of a ring's calls.
-ghost use Rattle.std.specs.Prelude.{◌≡◌, ◌+◌, ◌*◌, ◌^◌, ◌≤◌, negsuc, OnOk, unsigned_abs};
+//! Norms and sectors of elements.
+ghost use Rattle.std.specs.Prelude.{◌≡◌, ◌*◌, ◌^◌, ◌≤◌, negsuc, IfOk, unsigned_abs};
 ghost use Rattle.algebra.specs.Integers.{ℤ_ops};
 ghost use Rattle.algebra.specs.Quadratic.{norm_form};
-ghost use Rattle.planes.specs.Planes.{axes, norm, pair, sector, trace};
-ghost use Rattle.ring.specs.Elements.{Within, admitted, reach};
+ghost use Rattle.planes.specs.Planes.{norm, pair, plane, sector, trace};
+ghost use Rattle.ring.specs.Answers.{one_check};
+ghost use Rattle.ring.specs.Elements.{passed};
 
-use super::whole::{minus, plus, times};
 use planes::Plane;
 use refusal::Refusal;
-use ring::{Element, admit};
+use ring::{Admitted, Element};
+
+// The plane stands beside the elements and not in them: of two elements in a call each would carry it, and the two
+// planes would have to be shown equal.
 
 /// Refuses an element with a coordinate out of the limits of a ring's calls.
-pub(super) fn admit_in(p: Plane, e: Element) -> Result<(), Refusal>
-    ensures value { result ≡ admitted (axes p) e }
-    ensures bounds { OnOk result (Within reach e) }
+pub(super) fn admit(p: Plane, e: Element) -> Result<Admitted, Refusal>
+    ensures check { passed result ≡ one_check (plane p) e }
+    ensures same { IfOk result (λ a. pair a.x a.y ≡ pair e.x e.y) }
 {
-    admit(p.axes(), e)
+    p.axes().admit(e)
 }
 
 /// x² + y², or x² − xy + y².
-fn form_of(p: Plane, e: Element) -> i64
-    requires { Within reach e }
+fn form_of(p: Plane, e: Admitted) -> i64
     ensures value { result ≡ norm_form ℤ_ops (negsuc 0) (trace p) (pair e.x e.y) }
     ensures bound { unsigned_abs result ≤ 3 * 2 ^ 60 }
 {
-    let squares = plus(times(e.x, e.x), times(e.y, e.y));
+    let products = e.products(e);
+    let squares = products.xx + products.yy;
     match p {
         Plane::Square => squares,
-        Plane::Hexagonal => minus(squares, times(e.x, e.y)),
+        Plane::Hexagonal => squares - products.xy,
     }
 }
 
-pub(super) fn norm_of(p: Plane, e: Element) -> u64
-    requires { Within reach e }
+pub(super) fn norm_of(p: Plane, e: Admitted) -> u64
     ensures value { result ≡ norm p (pair e.x e.y) }
     ensures bound { result ≤ 3 * 2 ^ 60 }
 {

@@ -1,6 +1,6 @@
 -- Division in a plane: to round a times the conjugate of b over the norm of b leaves a small remainder.
 use Rattle.std.proofs.Common.{◌≡◌, ℕ, ◌+◌, ◌*◌, ◌<◌, ◌≤◌, [], ◌∷◌, ℤ, pos, negsuc, ◌+ℤ◌, ◌-ℤ◌, ◌*ℤ◌, nat_abs, sym, refl, ap, ◌∙◌, subst, ⊎_elim, mul-le-mul, pos_of_ne-zero, le_of_mul-le-mul_right, arith}
-use Rattle.std.proofs.lemmas.Int.{ints}
+use Rattle.std.proofs.lemmas.Int.{ints, unsigned_abs-mul}
 use Rattle.std.proofs.lemmas.Bool.{cases_lt}
 use Rattle.algebra.specs.Ring.{Ops, CommRing}
 use Rattle.algebra.specs.Integers.{ℤ_ops}
@@ -11,7 +11,7 @@ use Rattle.algebra.proofs.Floor.{Floor, floor}
 use Rattle.algebra.proofs.Integers.{ℤ_ring}
 use Rattle.algebra.proofs.Quadratic.{quad_ring}
 use Rattle.algebra.proofs.Quote.{ring, quote, quoteℤ}
-use Rattle.algebra.proofs.Whole.{unsigned_abs-add, nat_abs_mul}
+use Rattle.algebra.proofs.Whole.{unsigned_abs-add}
 use Rattle.planes.specs.declared.Plane.{Plane}
 use Rattle.planes.specs.declared.Plane.TheVariants.{Square, Hexagonal}
 use Rattle.planes.specs.Planes.{Nearest, left_over, norm, over, pair, plane, trace}
@@ -34,10 +34,10 @@ norm_at_most p e f =
     let both = unsigned_abs-add (e *ℤ e +ℤ f *ℤ f) (trace p *ℤ (e *ℤ f)) in
     let squares = unsigned_abs-add (e *ℤ e) (f *ℤ f) in
     let small = trace_small p (nat_abs e * nat_abs f) in
-    let ee = nat_abs_mul e e in
-    let ff = nat_abs_mul f f in
-    let ef = nat_abs_mul e f in
-    let tef = nat_abs_mul (trace p) (e *ℤ f) ∙ ap (λ (n : ℕ). nat_abs (trace p) * n) ef in
+    let ee = unsigned_abs-mul e e in
+    let ff = unsigned_abs-mul f f in
+    let ef = unsigned_abs-mul e f in
+    let tef = unsigned_abs-mul (trace p) (e *ℤ f) ∙ ap (λ (n : ℕ). nat_abs (trace p) * n) ef in
     omega (arith, same, both, squares, small, ee, ff, tef)
 
 three_quarters : (e f n : ℕ) → 2 * e ≤ n → 2 * f ≤ n → 4 * (e * e + f * f + e * f) ≤ 3 * (n * n)

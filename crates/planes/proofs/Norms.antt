@@ -1,12 +1,12 @@
 -- The norm of a plane: it is positive, multiplicative, and bounds the coordinates.
 use Rattle.std.proofs.Common.{◌≡◌, ℕ, zero, suc, ◌+◌, ◌*◌, ◌≤◌, [], ◌∷◌, ℤ, pos, negsuc, ◌+ℤ◌, ◌-ℤ◌, ◌*ℤ◌, nat_abs, refl, ap, ◌∙◌, subst, ap₂, arith}
-use Rattle.std.proofs.lemmas.Int.{ints}
+use Rattle.std.proofs.lemmas.Int.{ints, unsigned_abs-mul}
 use Rattle.algebra.specs.Integers.{ℤ_ops}
 use Rattle.algebra.specs.Quadratic.{Quad, quad_ops, conjugate, norm_form}
 use Rattle.algebra.proofs.Integers.{ℤ_ring}
 use Rattle.algebra.proofs.Quadratic.{quadratic}
 use Rattle.algebra.proofs.Quote.{ring, quoteℤ}
-use Rattle.algebra.proofs.Whole.{nat_abs_mul, zero_from_unsigned_abs}
+use Rattle.algebra.proofs.Whole.{zero_from_unsigned_abs}
 use Rattle.planes.specs.declared.Plane.{Plane}
 use Rattle.planes.specs.declared.Plane.TheVariants.{Square, Hexagonal}
 use Rattle.planes.specs.Planes.{norm, pair, span, trace}
@@ -86,7 +86,7 @@ module _ (p : Plane) (z : Quad ℤ) where
   zero_from_norm h = λ i. pair (zero_from_unsigned_abs z.re (omega (arith, re_bound, h)) i) (zero_from_unsigned_abs z.im (omega (arith, im_bound p z, h)) i)
 
 pub norm-mul : (p : Plane) (z w : Quad ℤ) → norm p ((quad_ops ℤ_ops (negsuc 0) (trace p)).mul z w) ≡ norm p z * norm p w
-norm-mul p z w = ap nat_abs ((quadratic ℤ_ring (negsuc 0) (trace p)).norm_form-mul z w) ∙ nat_abs_mul (form p z) (form p w)
+norm-mul p z w = ap nat_abs ((quadratic ℤ_ring (negsuc 0) (trace p)).norm_form-mul z w) ∙ unsigned_abs-mul (form p z) (form p w)
 
 -- z times its conjugate is its norm
 pub mul-conjugate_is_norm : (p : Plane) (z : Quad ℤ) → (quad_ops ℤ_ops (negsuc 0) (trace p)).mul z (conjugate ℤ_ops (negsuc 0) (trace p) z) ≡ pair (pos (norm p z)) (pos 0)

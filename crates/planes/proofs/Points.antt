@@ -1,10 +1,9 @@
 -- The points among which the canonical elements up to norm 64 are found, and what a walk over them counts.
-use Rattle.std.proofs.Common.{◌≡◌, ℕ, ◌+◌, ◌<◌, ◌≤◌, Bool, true, false, cond, List, [], ◌∷◌, ◌++◌, length, get_or, take, drop, ℤ, Some, None, filter, sym, refl, ap, ◌∙◌, subst, arith}
-use Rattle.std.specs.List.{slice_get}
-use Rattle.std.proofs.lemmas.List.FromFn.{get_or-map-range_with_len}
-use Rattle.std.proofs.lemmas.List.Elements.{filter-append, filter_more}
-use Rattle.std.proofs.lemmas.List.{drop_more, length-append, take_all, take-append-drop}
-use Rattle.std.proofs.lemmas.Option.{slice_get_past}
+use Rattle.std.proofs.Common.{◌≡◌, ℕ, ◌+◌, ◌<◌, ◌≤◌, Bool, true, cond, List, [], ◌∷◌, ◌++◌, length, get_or, take, drop, map, ℤ, Some, filter, sym, refl, ap, ◌∙◌, subst, arith}
+use Rattle.std.specs.List.{range_with_len, slice_get}
+use Rattle.std.proofs.lemmas.List.FromFn.{get_or-map-range_with_len, take-map-range_with_len}
+use Rattle.std.proofs.lemmas.List.Elements.{filter-append}
+use Rattle.std.proofs.lemmas.List.{drop_more, take_all, take-append-drop}
 use Rattle.algebra.specs.Quadratic.{Quad}
 use Rattle.planes.specs.Planes.{near, point}
 
@@ -20,22 +19,16 @@ near_at : (i : ℕ) (d : Quad ℤ) → i < 81 → get_or near i d ≡ point 9 i
 unfolding near
 near_at i d h = get_or-map-range_with_len (point 9) 0 81 i i d h (omega arith)
 
+-- the points by number
+pub points_near : map (point 9) (range_with_len 0 81) ≡ near
+unfolding near
+points_near = refl
+
+pub first_near : (n : ℕ) → n ≤ 81 → map (point 9) (range_with_len 0 n) ≡ take n near
+unfolding near
+first_near n h = sym (take-map-range_with_len (point 9) 0 81 n h)
+
 module _ (test : Quad ℤ → Bool) (i : ℕ) (h : i < 81) where
-  before : List (Quad ℤ)
-  before = filter test (take i near)
-
-  kept_more : filter test (take (i + 1) near) ≡ filter test (take i near) ++ cond (test (point 9 i)) (point 9 i ∷ []) []
-  kept_more =
-      filter_more test near i (point 9 i) (subst (λ (n : ℕ). i < n) (sym near_length) h) ∙ ap (λ (z : Quad ℤ). filter test (take i near) ++ cond (test z) (z ∷ []) []) (near_at i (point 9 i) h)
-
-  pub count_hit : test (point 9 i) ≡ true → length (filter test (take (i + 1) near)) ≡ length (filter test (take i near)) + 1
-  count_hit t =
-      ap length (kept_more ∙ ap (λ (b : Bool). filter test (take i near) ++ cond b (point 9 i ∷ []) []) t) ∙ length-append (filter test (take i near)) (point 9 i ∷ [])
-
-  pub count_miss : test (point 9 i) ≡ false → length (filter test (take (i + 1) near)) ≡ length (filter test (take i near))
-  count_miss t =
-      ap length (kept_more ∙ ap (λ (b : Bool). filter test (take i near) ++ cond b (point 9 i ∷ []) []) t) ∙ length-append (filter test (take i near)) [] ∙ omega arith
-
   -- a point that passes stands behind those that passed before it
   pub found_at : test (point 9 i) ≡ true → slice_get (filter test near) (length (filter test (take i near))) ≡ Some (point 9 i)
   found_at t =
@@ -47,6 +40,3 @@ module _ (test : Quad ℤ → Bool) (i : ℕ) (h : i < 81) where
 -- past the last point
 pub all_points : (n : ℕ) → 81 ≤ n → take n near ≡ near
 all_points n h = take_all n near (subst (λ (k : ℕ). k ≤ n) (sym near_length) h)
-
-pub none_past : (test : Quad ℤ → Bool) (i n : ℕ) → 81 ≤ i → length (filter test (take i near)) ≤ n → slice_get (filter test near) n ≡ None
-none_past test i n h k = slice_get_past (filter test near) n (subst (λ (l : List (Quad ℤ)). length (filter test l) ≤ n) (all_points i h) k)

@@ -4,7 +4,7 @@ use Rattle.std.proofs.Common.{◌≡◌, ℕ, zero, suc, ◌+◌, ◌*◌, ◌/�
 use native.Mathlib.Nat.{div-eq_of_lt, mod-le}
 use lib.Arith.{digits_div, digits_mod, digits_lt}
 use Rattle.std.proofs.lemmas.List.FromFn.{length-map-range_with_len}
-use Rattle.std.proofs.lemmas.Int.{ints}
+use Rattle.std.proofs.lemmas.Int.{ints, unsigned_abs-mul}
 use Rattle.std.specs.List.{slice_get}
 use Rattle.algebra.specs.Ring.{Ops, CommRing}
 use Rattle.algebra.specs.Integers.{ℤ_ops}
@@ -18,7 +18,7 @@ use Rattle.algebra.proofs.Integers.{ℤ_ring}
 use Rattle.algebra.proofs.Once.{map_counting_listed, nth_map_counting}
 use Rattle.algebra.proofs.Quadratic.{quad_ring}
 use Rattle.algebra.proofs.Quote.{ring, quote, quoteℤ}
-use Rattle.algebra.proofs.Whole.{nat_abs_mul, zero_from_unsigned_abs, zero_product}
+use Rattle.algebra.proofs.Whole.{zero_from_unsigned_abs, zero_product}
 use Rattle.planes.specs.declared.Plane.{Plane}
 use Rattle.planes.specs.Planes.{content, norm, pair, residues, trace, width}
 use Rattle.planes.proofs.Division.{arithmetic, times_whole}
@@ -64,7 +64,7 @@ gcd_signed x y g i =
 
 -- a multiple of g that is smaller than g is 0
 pub small_multiple : (z k : ℤ) (g : ℕ) → z ≡ k *ℤ pos g → nat_abs z < g → z ≡ pos 0
-small_multiple z k g e h = zero_from_unsigned_abs z (less (nat_abs z) (nat_abs k) g (ap nat_abs e ∙ nat_abs_mul k (pos g)) h)
+small_multiple z k g e h = zero_from_unsigned_abs z (less (nat_abs z) (nat_abs k) g (ap nat_abs e ∙ unsigned_abs-mul k (pos g)) h)
   where
     less : (a b c : ℕ) → a ≡ b * c → a < c → a ≡ 0
     less a zero c e h = omega (arith, e)
@@ -236,7 +236,7 @@ module _ (p : Plane) (m : Quad ℤ) (nonzero : 0 < norm p m) where
       let im : pos v -ℤ pos t ≡ pos 0 = small_multiple (pos v -ℤ pos t) l.0 g (ap (λ (z : Quad ℤ). z.im) d.1 ∙ l.1) (difference_small v t g hv ht) in
       let whole : pair (pos u -ℤ pos s) (pos 0) ≡ (arithmetic p).mul d.0 m = (λ i. pair (pos u -ℤ pos s) (sym im i)) ∙ d.1 in
       let k = whole_first (pos u -ℤ pos s) d.0 whole in
-      let few : nat_abs ((pos u -ℤ pos s) *ℤ pos g) < norm p m = rw (nat_abs_mul (pos u -ℤ pos s) (pos g), norm_width) (below (nat_abs (pos u -ℤ pos s)) (width p m) g (difference_small u s (width p m) hu hs) content_positive) in
+      let few : nat_abs ((pos u -ℤ pos s) *ℤ pos g) < norm p m = rw (unsigned_abs-mul (pos u -ℤ pos s) (pos g), norm_width) (below (nat_abs (pos u -ℤ pos s)) (width p m) g (difference_small u s (width p m) hu hs) content_positive) in
       let none = small_multiple ((pos u -ℤ pos s) *ℤ pos g) k.0 (norm p m) k.1 few in
       (difference_none u s (no_factor (pos u -ℤ pos s) g content_positive none), difference_none v t im)
     where
@@ -245,7 +245,7 @@ module _ (p : Plane) (m : Quad ℤ) (nonzero : 0 < norm p m) where
       below a b (suc n) h k = let l = mul-le-mul h (le_refl (suc n)) in omega (arith, l)
 
       no_factor : (x : ℤ) (n : ℕ) → 0 < n → x *ℤ pos n ≡ pos 0 → x ≡ pos 0
-      no_factor x n h e = zero_from_unsigned_abs x (⊎_elim (λ z. z) (λ z. absurd (omega (arith, z, h))) (zero_product (nat_abs x) n (sym (nat_abs_mul x (pos n)) ∙ ap nat_abs e)))
+      no_factor x n h e = zero_from_unsigned_abs x (⊎_elim (λ z. z) (λ z. absurd (omega (arith, z, h))) (zero_product (nat_abs x) n (sym (unsigned_abs-mul x (pos n)) ∙ ap nat_abs e)))
 
   pub residue_unique : (i j : ℕ) (r s : Quad ℤ) → slice_get (residues p m) i ≡ Some r → slice_get (residues p m) j ≡ Some s → Congruent (arithmetic p) m r s → i ≡ j
   residue_unique i j r s h k d =

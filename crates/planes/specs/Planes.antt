@@ -95,3 +95,11 @@ plane p = record {
   coordinates = axes p;
   euclidean = record { norm = norm p; canonical = canonical p; residues = residues p };
 }
+
+-- x + yi, the points of a square lattice
+abbrev pub gaussian_integers : Meaning
+gaussian_integers = plane Square
+
+-- x + yω with ω² = −1 − ω, the points of a hexagonal lattice
+abbrev pub eisenstein_integers : Meaning
+eisenstein_integers = plane Hexagonal

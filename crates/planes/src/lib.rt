@@ -31,6 +31,16 @@ impl Plane {
     }
 }
 
+/// A type that stands for a plane.
+pub trait HasPlane {
+    ghost use Rattle.planes.specs.declared.Plane.{Plane};
+
+    ghost plane: { Plane };
+
+    fn plane(&self) -> Plane
+        ensures { result ≡ plane };
+}
+
 /// Both planes keep every law of a ring.
 pub fn planes_keep_the_laws()
     ensures { (p : Plane) → Laws (plane p) }

@@ -77,15 +77,6 @@ pub struct Refusal {
     pub place: u64,
 }
 
-impl Refusal {
-    /// A refusal that has no place.
-    pub fn of(cause: Cause) -> Refusal
-        ensures { result ≡ refused cause 0 }
-    {
-        Refusal::from(cause)
-    }
-}
-
 /// A cause that has no place.
 impl From<Cause> for Refusal {
     ghost from_gives = { λ cause r. r ≡ refused cause 0 };

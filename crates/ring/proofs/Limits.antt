@@ -1,7 +1,7 @@
 -- Coordinates within their limits, and what fits 64 bits.
-use Rattle.std.proofs.Common.{◌≡◌, ℕ, ◌*◌, ◌^◌, ◌≤◌, ℤ, pos, ◌+ℤ◌, ◌*ℤ◌, nat_abs, sym, ap, subst, ap₂, mul-le-mul, arith, w64, SFits, to_z, of_z}
-use Rattle.std.proofs.lemmas.Int.{ints, to_z-of_z}
-use Rattle.algebra.proofs.Whole.{nat_abs_mul}
+use Rattle.std.proofs.Common.{◌≡◌, ℕ, ◌*◌, ◌^◌, ◌≤◌, ℤ, pos, ◌+ℤ◌, ◌*ℤ◌, nat_abs, sym, ap, subst, ap₂, mul-le-mul, arith, w64, SFits, to_z, of_z, lit≤}
+use Rattle.std.proofs.lemmas.Int.{ints, to_z-of_z, unsigned_abs-mul}
+use Rattle.algebra.proofs.Whole.{unsigned_abs-add}
 use Rattle.ring.specs.declared.elements.Element.{Element}
 use Rattle.ring.specs.declared.elements.Coordinates.{Coordinates}
 use Rattle.ring.specs.declared.elements.Coordinates.TheVariants.{One, Two}
@@ -13,10 +13,24 @@ fits z h = omega (arith, ints)
 pub back : (z : ℤ) → nat_abs z ≤ 2 ^ 62 → to_z w64 (of_z w64 z) ≡ z
 back z h = to_z-of_z w64 z (fits z h)
 
+-- sums of two and of three numbers as the code computes them
+pub two_fit : (a c : ℤ) → nat_abs a ≤ 2 ^ 60 → nat_abs c ≤ 3 * 2 ^ 60 → SFits w64 (to_z w64 (of_z w64 a) +ℤ c)
+two_fit a c p r =
+    let e = back a (omega arith) in
+    rw e (fits (a +ℤ c) (omega (arith, unsigned_abs-add a c)))
+
+pub three_fit : (a b c : ℤ) → nat_abs a ≤ 2 ^ 60 → nat_abs b ≤ 2 ^ 60 → nat_abs c ≤ 2 ^ 60 → SFits w64 (to_z w64 (of_z w64 (to_z w64 (of_z w64 a) +ℤ to_z w64 (of_z w64 b))) +ℤ c)
+three_fit a b c p q r =
+    let e = back a (omega arith) in
+    let f = back b (omega arith) in
+    let h = unsigned_abs-add a b in
+    let g = back (a +ℤ b) (omega (arith, h)) in
+    rw (e, f, g) (fits (a +ℤ b +ℤ c) (omega (arith, h, unsigned_abs-add (a +ℤ b) c)))
+
 -- a product as the code computes it, through the bits
 module _ (a b : ℤ) (m n : ℕ) (p : nat_abs a ≤ m) (q : nat_abs b ≤ n) (small : m ≤ 2 ^ 62) (also : n ≤ 2 ^ 62) (few : m * n ≤ 2 ^ 62) where
   pub product_bound : nat_abs (a *ℤ b) ≤ m * n
-  product_bound = rw nat_abs_mul (mul-le-mul p q)
+  product_bound = rw unsigned_abs-mul (mul-le-mul p q)
 
   pub product_fits : SFits w64 (to_z w64 (of_z w64 a) *ℤ to_z w64 (of_z w64 b))
   product_fits =
@@ -29,6 +43,14 @@ module _ (a b : ℤ) (m n : ℕ) (p : nat_abs a ≤ m) (q : nat_abs b ≤ n) (sm
       let e = back a (omega arith) in
       let f = back b (omega arith) in
       rw (e, f) (back (a *ℤ b) (omega (arith, product_bound)))
+
+-- the product of two coordinates within the limits of a ring's calls
+module _ (a b : ℤ) (p : nat_abs a ≤ 2 ^ 30) (q : nat_abs b ≤ 2 ^ 30) where
+  pub coordinates_product : to_z w64 (of_z w64 (to_z w64 (of_z w64 a) *ℤ to_z w64 (of_z w64 b))) ≡ a *ℤ b
+  coordinates_product = product_is a b (2 ^ 30) (2 ^ 30) p q (lit≤ tt) (lit≤ tt) (lit≤ tt)
+
+  pub coordinates_bound : nat_abs (to_z w64 (of_z w64 (to_z w64 (of_z w64 a) *ℤ to_z w64 (of_z w64 b)))) ≤ 2 ^ 60
+  coordinates_bound = rw coordinates_product (product_bound a b (2 ^ 30) (2 ^ 30) p q (lit≤ tt) (lit≤ tt) (lit≤ tt))
 
 -- the operations at coordinates that are known
 module _ (k : Coordinates) (a b : Element) where

@@ -1,6 +1,8 @@
 -- Equal elements, places in lists, and what the checks of a ring's calls tell.
-use Rattle.std.proofs.Common.{◌≡◌, ℕ, zero, suc, Bool, true, false, cond, not, ◌&&◌, List, [], ◌∷◌, ℤ, pos, negsuc, is_some, Some, None, Ok, Option, sym, refl, ap, ◌∙◌, subst, ap₂, true≢false, arith}
+use Rattle.std.proofs.Common.{◌≡◌, ℕ, zero, suc, Bool, true, false, cond, not, ◌&&◌, List, [], ◌∷◌, ℤ, is_some, Some, None, Ok, Option, sym, refl, ap, ◌∙◌, subst, ap₂, true≢false, rules, arith}
 use Rattle.std.specs.Option.{option_map}
+use Rattle.std.specs.Ordering.{int_eq}
+use Rattle.std.proofs.lemmas.Bool.Decides.{Decides-int_eq}
 use Rattle.std.specs.List.{slice_get}
 use Rattle.algebra.specs.Euclidean.{Canonical, Modulus}
 use Rattle.refusal.specs.declared.Cause.TheVariants.{Modulus as NoModulus}
@@ -8,7 +10,7 @@ use Rattle.refusal.specs.Numbers.{refuse}
 use Rattle.ring.specs.declared.elements.Coordinates.{Coordinates}
 use Rattle.ring.specs.declared.elements.Coordinates.TheVariants.{One, Two}
 use Rattle.ring.specs.declared.elements.Element.{Element}
-use Rattle.ring.specs.Elements.{Carrier, ops, element, value, same, same_whole}
+use Rattle.ring.specs.Elements.{Carrier, ops, element, value, same}
 use Rattle.ring.specs.Meaning.{Meaning}
 use Rattle.ring.specs.Answers.{place, is_zero, canonical_place, modulus_check}
 
@@ -16,25 +18,21 @@ pub both : (a b : Bool) → (a && b) ≡ true → (a ≡ true) × (b ≡ true)
 both true b h = (refl, h)
 both false b h = absurd (true≢false (sym h))
 
-same_whole_true : (x y : ℤ) → same_whole x y ≡ true → x ≡ y
-same_whole_true (pos a) (pos b) h = ap pos (grind arith)
-same_whole_true (pos a) (negsuc b) h = absurd (true≢false (sym h))
-same_whole_true (negsuc a) (pos b) h = absurd (true≢false (sym h))
-same_whole_true (negsuc a) (negsuc b) h = ap negsuc (grind arith)
+whole_true : (x y : ℤ) → int_eq x y ≡ true → x ≡ y
+whole_true x y h = search (Decides-int_eq, rules)
 
-same_whole_refl : (x : ℤ) → same_whole x x ≡ true
-same_whole_refl (pos a) = grind arith
-same_whole_refl (negsuc a) = grind arith
+whole_refl : (x : ℤ) → int_eq x x ≡ true
+whole_refl x = search (Decides-int_eq, rules)
 
 pub same_true : (k : Coordinates) (u v : Carrier k) → same k u v ≡ true → u ≡ v
-same_true One u v h = same_whole_true u v h
+same_true One u v h = whole_true u v h
 same_true (Two a b) u v h =
-    let e = both (same_whole u.re v.re) (same_whole u.im v.im) h in
-    λ i. record { re = same_whole_true u.re v.re e.0 i; im = same_whole_true u.im v.im e.1 i }
+    let e = both (int_eq u.re v.re) (int_eq u.im v.im) h in
+    λ i. record { re = whole_true u.re v.re e.0 i; im = whole_true u.im v.im e.1 i }
 
 pub same_refl : (k : Coordinates) (u : Carrier k) → same k u u ≡ true
-same_refl One u = same_whole_refl u
-same_refl (Two a b) u = ap₂ ◌&&◌ (same_whole_refl u.re) (same_whole_refl u.im)
+same_refl One u = whole_refl u
+same_refl (Two a b) u = ap₂ ◌&&◌ (whole_refl u.re) (whole_refl u.im)
 
 pub value-element : (k : Coordinates) (u : Carrier k) → value k (element k u) ≡ u
 value-element One u = refl

@@ -1,5 +1,6 @@
 -- The elements of a ring, as mathematics has them and as the code holds them.
-use Rattle.std.specs.Prelude.{◌≡◌, ℕ, ◌^◌, ◌≤◌, Bool, false, cond, ◌&&◌, ℤ, pos, negsuc, Ok, Result, ◌==◌, nat_le, unsigned_abs}
+use Rattle.std.specs.Prelude.{◌≡◌, ℕ, ◌^◌, ◌≤◌, Bool, cond, ◌&&◌, ℤ, pos, Ok, Err, Result, nat_le, unsigned_abs}
+use Rattle.std.specs.Ordering.{int_eq}
 use Rattle.algebra.specs.Ring.{Ops}
 use Rattle.algebra.specs.Integers.{ℤ_ops}
 use Rattle.algebra.specs.Quadratic.{Quad, quad_ops}
@@ -20,10 +21,14 @@ abbrev pub ops : (k : Coordinates) → Ops (Carrier k)
 ops One = ℤ_ops
 ops (Two a b) = quad_ops ℤ_ops a b
 
+-- x + yθ
+abbrev pub at : ℤ → ℤ → Element
+at x y = record { x = x; y = y }
+
 -- as the code holds it: with one coordinate, y is 0
 abbrev pub element : (k : Coordinates) → Carrier k → Element
-element One x = record { x = x; y = pos 0 }
-element (Two a b) z = record { x = z.re; y = z.im }
+element One x = at x (pos 0)
+element (Two a b) z = at z.re z.im
 
 abbrev pub value : (k : Coordinates) → Element → Carrier k
 value One e = e.x
@@ -33,15 +38,9 @@ value (Two a b) e = record { re = e.x; im = e.y }
 abbrev pub Member : Coordinates → Element → Type 0
 Member k e = element k (value k e) ≡ e
 
-abbrev pub same_whole : ℤ → ℤ → Bool
-same_whole (pos a) (pos b) = a == b
-same_whole (pos a) (negsuc b) = false
-same_whole (negsuc a) (pos b) = false
-same_whole (negsuc a) (negsuc b) = a == b
-
 abbrev pub same : (k : Coordinates) → Carrier k → Carrier k → Bool
-same One x y = same_whole x y
-same (Two a b) z w = same_whole z.re w.re && same_whole z.im w.im
+same One x y = int_eq x y
+same (Two a b) z w = int_eq z.re w.re && int_eq z.im w.im
 
 -- the second coordinate's limit, where the first one's is `limit`
 abbrev pub second : Coordinates → ℕ → ℕ
@@ -55,6 +54,11 @@ admits k limit e = nat_le (unsigned_abs e.x) limit && nat_le (unsigned_abs e.y) 
 -- the limit of the ring's calls
 abbrev pub reach : ℕ
 reach = 2 ^ 30
+
+-- whether a call passed, without what it gave
+abbrev pub passed : {X E : Type 0} → Result X E → Result (Unit {0}) E
+passed (Ok x) = Ok tt
+passed (Err e) = Err e
 
 abbrev pub admitted : Coordinates → Element → Result (Unit {0}) Refusal
 admitted k e = cond (admits k reach e) (Ok tt) (refuse Coordinate)

@@ -7,11 +7,12 @@ ghost use Rattle.ring.specs.Meaning.{Meaning, Laws};
 
 use refusal::Refusal;
 
+mod admitted;
 mod arithmetic;
 mod elements;
 
-use arithmetic::{product_of, sum_of};
-pub use elements::{Coordinates, Division, Element, admit, admit_norm, within};
+pub use admitted::{Admitted, Products};
+pub use elements::{Coordinates, Division, Element, admit_norm};
 
 /// A ring with a norm and a division, one canonical element among associates, and numbered residues.
 ///
@@ -29,18 +30,18 @@ pub trait Ring {
         ensures { result ≡ sum_answer meaning a b }
     {
         let k = self.coordinates();
-        admit(k, a)?;
-        admit(k, b)?;
-        Ok(sum_of(k, a, b))
+        let a = k.admit(a)?;
+        let b = k.admit(b)?;
+        Ok(k.sum(a, b))
     }
 
     fn product(&self, a: Element, b: Element) -> Result<Element, Refusal>
         ensures { result ≡ product_answer meaning a b }
     {
         let k = self.coordinates();
-        admit(k, a)?;
-        admit(k, b)?;
-        Ok(product_of(k, a, b))
+        let a = k.admit(a)?;
+        let b = k.admit(b)?;
+        Ok(k.product(a, b))
     }
 
     fn norm(&self, a: Element) -> Result<u64, Refusal>

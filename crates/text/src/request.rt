@@ -5,6 +5,7 @@ ghost use Rattle.text.specs.Written.{ring_written};
 
 use super::parts::cut;
 use super::values::{element, number};
+use planes::Plane;
 use refusal::Cause;
 use ring::{Coordinates, Element};
 use std::fmt;
@@ -24,8 +25,8 @@ impl RingName {
     {
         match self {
             RingName::Integers => Coordinates::One,
-            RingName::Gaussian => Coordinates::Two(-1, 0),
-            RingName::Eisenstein => Coordinates::Two(-1, -1),
+            RingName::Gaussian => Plane::Square.axes(),
+            RingName::Eisenstein => Plane::Hexagonal.axes(),
         }
     }
 }
@@ -146,7 +147,7 @@ pub struct Request {
 fn entries<const N: usize>(k: Coordinates, bytes: &[u8]) -> Result<[Element; N], Cause>
     ensures { result ≡ elements k N (Some bytes.now) }
 {
-    let mut entries = [Element { x: 0, y: 0 }; N];
+    let mut entries = [Element::from(0); N];
     let mut rest = Some(bytes);
     for entry in entries.iter_mut() {
         let Some(part) = rest else {

@@ -54,10 +54,7 @@ pub fn element(k: Coordinates, bytes: &[u8]) -> Result<Element, Cause>
     ensures { result ≡ element_answer k bytes.now }
 {
     match k {
-        Coordinates::One => Ok(Element {
-            x: coordinate(bytes)?,
-            y: 0,
-        }),
+        Coordinates::One => Ok(Element::from(coordinate(bytes)?)),
         Coordinates::Two(_, _) => {
             let (x, Some(y)) = cut(bytes, b':') else {
                 return Err(Cause::Value);

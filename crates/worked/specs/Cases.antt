@@ -4,9 +4,7 @@ use Rattle.std.specs.List.{slice_get}
 use Rattle.algebra.specs.Divisors.{Associate, Congruent}
 use Rattle.algebra.specs.Euclidean.{Canonical}
 use Rattle.ring.specs.Elements.{ops}
-use Rattle.planes.specs.Planes.{pair}
-use Rattle.gaussian.specs.Gaussian.{gaussian_integers}
-use Rattle.eisenstein.specs.Eisenstein.{eisenstein_integers}
+use Rattle.planes.specs.Planes.{eisenstein_integers, gaussian_integers, pair}
 
 pub record WorkedCases : Type 0 where
   -- −1 + 2i has the canonical associate 2 + i

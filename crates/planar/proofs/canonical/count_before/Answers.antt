@@ -1,15 +1,13 @@
-use Rattle.std.proofs.Common.{◌<◌, sym, ap, ◌∙◌, arith}
-use Rattle.planes.specs.Planes.{canonical_of}
-use Rattle.planes.proofs.Points.{count_hit, count_miss}
+use Rattle.std.proofs.Common.{rules, length, filter, ap, ◌∙◌, arith}
+use borrow.Author.Tests.{tests}
+use Rattle.std.proofs.lemmas.Iterator.{YieldsList-from_range, YieldsList-from_map_by}
+use Rattle.std.proofs.lemmas.Iterator.Consumers.{YieldsList-at, YieldsList-from_filter, count_from_yields_List}
+use Rattle.planes.specs.Planes.{canonical_of, pair, point}
+use Rattle.planes.proofs.Points.{first_near}
 use Rattle.planar.proofs.canonical.count_before.Goals as goal
-use Rattle.planar.proofs.canonical.count_before.Goals.{then-is_canonical_of, else-is_canonical_of}
 
-pub loop-i-preserved : goal.loop-i-preserved
-loop-i-preserved c =
-    let test = canonical_of c.args.p c.args.norm in
-    let inside : c.loop-i.i < 81 = omega arith in
-    let same = ap test (sym c.point_of.ensures.value) in
-    elim c.if-is_canonical_of.branch [
-      | then-is_canonical_of w ↦ let h = count_hit test c.loop-i.i inside (same ∙ sym w.if-is_canonical_of.ensures) in (omega (arith, h, w.count-is, c.loop-i.invariant.0), omega (arith, w.count-is, c.loop-i.invariant.1))
-      | else-is_canonical_of w ↦ let h = count_miss test c.loop-i.i inside (same ∙ sym w.if-is_canonical_of.ensures) in (omega (arith, h, w.count-is, c.loop-i.invariant.0), omega (arith, w.count-is, c.loop-i.invariant.1))
-    ]
+pub returns : goal.returns
+returns c =
+    let points = YieldsList-from_map_by _ (λ a. pair a.x a.y) (point 9) (YieldsList-from_range 0 c.args.end c.args.end (cc) (omega arith)) c.map.ensures.closure (λ x r q k. search (rules, tests)) in
+    let kept = YieldsList-from_filter _ (canonical_of c.args.p c.args.norm) (YieldsList-at c.filter.ensures.source points) c.filter.ensures.closure (λ x r q k. search (rules, tests)) in
+    count_from_yields_List _ _ c.count.ensures.ran kept ∙ ap (λ xs. length (filter (canonical_of c.args.p c.args.norm) xs)) (first_near c.args.end c.requires)

@@ -3,5 +3,9 @@ use Rattle.planes.specs.Planes.{pair, sector, turns}
 use Rattle.planar.proofs.canonical.to_sector.Given as goal
 
 abbrev pub invariant-loop-k : goal.invariant-loop-k
-invariant-loop-k l =
-    (pair l.turned.x l.turned.y ≡ turns l.p l._k (pair l.initial.turned.x l.initial.turned.y)) × (nat_abs l.turned.x ≤ 2 ^ (30 + l._k)) × (nat_abs l.turned.y ≤ 2 ^ (30 + l._k)) × ((k : ℕ) → k < l._k → sector l.p (turns l.p k (pair l.initial.turned.x l.initial.turned.y)) ≡ false)
+invariant-loop-k l = record {
+  turned : pair l.turned.x l.turned.y ≡ turns l.p l._k (pair l.fn.e.x l.fn.e.y);
+  x_bound : nat_abs l.turned.x ≤ 2 ^ (30 + l._k);
+  y_bound : nat_abs l.turned.y ≤ 2 ^ (30 + l._k);
+  outside : (k : ℕ) → k < l._k → sector l.p (turns l.p k (pair l.fn.e.x l.fn.e.y)) ≡ false;
+}
