@@ -28,7 +28,7 @@ natural_y Hexagonal x y s = grind (arith, ints)
 natural_x : (x y : ℤ) → sector Square (pair x y) ≡ true → pos (nat_abs x) ≡ x
 natural_x x y s = grind (arith, ints)
 
-natural_difference : (x y : ℤ) → sector Hexagonal (pair x y) ≡ true → (pos (nat_abs (x -ℤ y)) ≡ x -ℤ y) × (nat_abs x ≡ 1 * nat_abs y + nat_abs (x -ℤ y))
+pub natural_difference : (x y : ℤ) → sector Hexagonal (pair x y) ≡ true → (pos (nat_abs (x -ℤ y)) ≡ x -ℤ y) × (nat_abs x ≡ 1 * nat_abs y + nat_abs (x -ℤ y))
 natural_difference x y s = (grind (arith, ints), grind (arith, ints))
 
 module _ (m : Element) where

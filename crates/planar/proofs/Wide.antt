@@ -1,7 +1,7 @@
 -- Numbers of 128 bits.
-use Rattle.std.proofs.Common.{◌≡◌, ◌*◌, ◌^◌, ◌≤◌, ℤ, ◌+ℤ◌, ◌-ℤ◌, nat_abs, arith, w64, SFits, to_z, of_z}
+use Rattle.std.proofs.Common.{◌≡◌, ◌*◌, ◌^◌, ◌≤◌, ℤ, ◌+ℤ◌, ◌-ℤ◌, ◌*ℤ◌, nat_abs, mul-le-mul, arith, w64, SFits, to_z, of_z}
 use mir.Syntax.{w128}
-use Rattle.std.proofs.lemmas.Int.{ints, to_z-of_z}
+use Rattle.std.proofs.lemmas.Int.{ints, to_z-of_z, unsigned_abs-mul}
 use Rattle.ring.proofs.Limits.{back}
 
 pub wide_fits : (z : ℤ) → nat_abs z ≤ 2 ^ 126 → SFits w128 z
@@ -45,3 +45,15 @@ narrowed u v p q r =
     let f = wide_back v (omega arith) in
     let g = wide_back (u -ℤ v) (omega (arith, r)) in
     rw (e, f, g) (back (u -ℤ v) r)
+
+-- a product of two numbers of 64 bits
+module _ (a b : ℤ) (p : nat_abs a ≤ 2 ^ 62) (q : nat_abs b ≤ 2 ^ 62) where
+  few : nat_abs (a *ℤ b) ≤ 2 ^ 124
+  few = rw unsigned_abs-mul (mul-le-mul p q)
+
+  pub wide_product_bound : nat_abs (to_z w128 (of_z w128 (to_z w128 (of_z w128 a) *ℤ to_z w128 (of_z w128 b)))) ≤ 2 ^ 124
+  wide_product_bound =
+      let e = wide_back a (omega arith) in
+      let f = wide_back b (omega arith) in
+      let g = wide_back (a *ℤ b) (omega (arith, few)) in
+      rw (e, f, g) few

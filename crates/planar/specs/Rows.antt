@@ -20,4 +20,4 @@ pub record Multiples (p : Plane) (m : Element) (x : ℤ) (y : ℕ) (u : ℤ) (v 
   pub common : gcd y v ≡ content (pair m.x m.y)
 
 abbrev pub AreRows : Rows → Type 0
-AreRows r = Multiples r.modulus.plane (at r.modulus.element.x r.modulus.element.y) r.first.x r.first.y r.second.x r.second.y
+AreRows r = Multiples r.modulus.divisor.plane (at r.modulus.divisor.element.x r.modulus.divisor.element.y) r.first.x r.first.y r.second.x r.second.y

@@ -65,31 +65,37 @@ pub(super) fn index_of(e: Element) -> u64
     e.y.unsigned_abs() * 9 + (e.x.unsigned_abs() - 1)
 }
 
-/// Whether the point is canonical and has this norm.
-fn is_canonical_of(p: Plane, norm: u64, e: Admitted) -> bool
-    ensures { result ≡ canonical_of p norm (pair e.x e.y) }
-{
-    in_sector(p, e.into()) && norm_of(p, e) == norm
+/// The canonical elements of a plane that have this norm.
+#[derive(Clone, Copy)]
+pub(super) struct Canonicals {
+    pub(super) plane: Plane,
+    pub(super) norm: u64,
 }
 
-/// How many of the first `end` points are canonical and have this norm.
-pub(super) fn count_before(p: Plane, norm: u64, end: u64) -> u64
-    requires { end ≤ 81 }
-    ensures { result ≡ length (filter (canonical_of p norm) (take end near)) }
-{
-    (0..end)
-        .map(point_of)
-        .filter(|e| is_canonical_of(p, norm, *e))
-        .count() as u64
-}
+impl Canonicals {
+    /// Whether the point is one of them.
+    fn contains(self, e: Admitted) -> bool
+        ensures { result ≡ canonical_of self.plane self.norm (pair e.x e.y) }
+    {
+        in_sector(self.plane, e.into()) && norm_of(self.plane, e) == self.norm
+    }
 
-/// The point of this number among those that are canonical and have this norm.
-pub(super) fn find(p: Plane, norm: u64, number: u64) -> Option<Element>
-    ensures { result ≡ option_map (element (axes p)) (slice_get (filter (canonical_of p norm) near) number) }
-{
-    (0..POINTS)
-        .map(point_of)
-        .filter(|e| is_canonical_of(p, norm, *e))
-        .nth(number as usize)
-        .map(Element::from)
+    /// How many of them are among the first `end` points.
+    pub(super) fn count_before(self, end: u64) -> u64
+        requires { end ≤ 81 }
+        ensures { result ≡ length (filter (canonical_of self.plane self.norm) (take end near)) }
+    {
+        (0..end).map(point_of).filter(|e| self.contains(*e)).count() as u64
+    }
+
+    /// The one of this number among the points.
+    pub(super) fn nth(self, number: u64) -> Option<Element>
+        ensures { result ≡ option_map (element (axes self.plane)) (slice_get (filter (canonical_of self.plane self.norm) near) number) }
+    {
+        (0..POINTS)
+            .map(point_of)
+            .filter(|e| self.contains(*e))
+            .nth(number as usize)
+            .map(Element::from)
+    }
 }

@@ -9,8 +9,8 @@ use planes::Plane;
 use ring::{Admitted, Division, Element};
 
 /// A product that needs more than 64 bits.
-// Its factors are rounded quotients, coordinates of rows and of elements: a type for their common limit would be made and
-// taken apart at each call.
+// Rounded quotients, coordinates of rows and of elements have the limit 2^62 in common, forms and quotients before rounding
+// 3·2^60: types for these limits would be made and taken apart at each call.
 pub(super) fn wide_times(a: i64, b: i64) -> i128
     requires a_small { unsigned_abs a ≤ 2 ^ 62 }
     requires b_small { unsigned_abs b ≤ 2 ^ 62 }
@@ -52,7 +52,7 @@ impl Divisor {
         }
     }
 
-    /// The whole number nearest to z by the norm.
+    /// The whole number nearest to z / norm.
     fn nearest(self, z: i64) -> i64
         requires { unsigned_abs z ≤ 3 * 2 ^ 60 }
         ensures value { Nearest z self.norm result }

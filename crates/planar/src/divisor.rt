@@ -37,21 +37,31 @@ impl Divisor {
             norm,
         })
     }
+}
 
-    /// The modulus; refuses one that is 0 or not canonical.
-    pub(super) fn modulus(plane: Plane, element: Admitted) -> Result<Divisor, Refusal>
+/// A canonical divisor, by which residues are taken.
+#[derive(Clone, Copy)]
+pub(super) struct Modulus {
+    pub(super) divisor: Divisor,
+    ghost inside: { sector divisor.plane (pair divisor.element.x divisor.element.y) ≡ true },
+}
+
+impl Modulus {
+    /// Refuses an element that is 0 or not canonical.
+    pub(super) fn of(plane: Plane, element: Admitted) -> Result<Modulus, Refusal>
         ensures check { passed result ≡ modulus_check (plane_of plane) (at element.x element.y) }
-        ensures inside { IfOk result (λ d. sector d.plane (pair d.element.x d.element.y) ≡ true) }
-        ensures plane { IfOk result (λ d. d.plane ≡ plane) }
-        ensures element { IfOk result (λ d. d.element ≡ element) }
+        ensures plane { IfOk result (λ m. m.divisor.plane ≡ plane) }
+        ensures element { IfOk result (λ m. m.divisor.element ≡ element) }
     {
         if !in_sector(plane, element.into()) {
             return Err(Cause::Modulus.into());
         }
-        Ok(Divisor {
-            plane,
-            element,
-            norm: norm_of(plane, element),
+        Ok(Modulus {
+            divisor: Divisor {
+                plane,
+                element,
+                norm: norm_of(plane, element),
+            },
         })
     }
 }

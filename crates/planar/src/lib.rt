@@ -21,8 +21,8 @@ mod rings;
 mod rows;
 
 use basis::Basis;
-use canonical::{POINTS, count_before, find, index_of, to_sector};
-use divisor::Divisor;
+use canonical::{Canonicals, POINTS, index_of, to_sector};
+use divisor::{Divisor, Modulus};
 use norms::{admit, in_sector, norm_of};
 pub use rings::{
     EISENSTEIN, Eisenstein, GAUSSIAN, Gaussian, HexagonalPlane, PlaneRing, SquarePlane,
@@ -47,7 +47,7 @@ pub fn canonical_count(p: Plane, norm: u64) -> Result<u64, Refusal>
     ensures { result ≡ count_answer (plane p) norm }
 {
     admit_norm(norm)?;
-    Ok(count_before(p, norm, POINTS))
+    Ok(Canonicals { plane: p, norm }.count_before(POINTS))
 }
 
 /// The canonical element of this norm and number.
@@ -55,7 +55,9 @@ pub fn canonical_element(p: Plane, norm: u64, number: u64) -> Result<Element, Re
     ensures { result ≡ canonical_element_answer (plane p) norm number }
 {
     admit_norm(norm)?;
-    find(p, norm, number).ok_or(Cause::Outside.into())
+    Canonicals { plane: p, norm }
+        .nth(number)
+        .ok_or(Cause::Outside.into())
 }
 
 /// The number of a canonical element among those of its norm.
@@ -66,7 +68,7 @@ pub fn canonical_number(p: Plane, a: Element) -> Result<u64, Refusal>
     if !in_sector(p, a) || norm > 64 {
         return Err(Cause::Outside.into());
     }
-    Ok(count_before(p, norm, index_of(a)))
+    Ok(Canonicals { plane: p, norm }.count_before(index_of(a)))
 }
 
 /// The nearest quotient, and the remainder that it leaves.
@@ -75,10 +77,10 @@ pub fn divide(p: Plane, a: Element, b: Element) -> Result<Division, Refusal>
 {
     let a = admit(p, a)?;
     let b = admit(p, b)?;
-    match Divisor::of(p, b) {
-        Some(divisor) => Ok(divisor.divide(a)),
-        None => Err(Cause::Modulus.into()),
-    }
+    let Some(divisor) = Divisor::of(p, b) else {
+        return Err(Cause::Modulus.into());
+    };
+    Ok(divisor.divide(a))
 }
 
 /// The basis of a modulus; refuses one that is 0 or not canonical.
@@ -86,7 +88,7 @@ fn basis_for(p: Plane, m: Admitted) -> Result<Basis, Refusal>
     ensures check { passed result ≡ modulus_check (plane p) (at m.x m.y) }
     ensures basis { IfOk result (IsBasis p (at m.x m.y)) }
 {
-    Ok(Basis::of(Divisor::modulus(p, m)?))
+    Ok(Basis::of(Modulus::of(p, m)?))
 }
 
 /// The residue modulo `m` that is congruent to `a`.

@@ -10,8 +10,8 @@ use planes::Plane;
 use refusal::Refusal;
 use ring::{Admitted, Element};
 
-// The plane stands beside the elements and not in them: of two elements in a call each would carry it, and the two
-// planes would have to be shown equal.
+// The plane stands beside the element here and in `canonical`: in a struct of the two, each call would have to show that
+// the plane in it is the one that it was called with, or the struct would be made and taken apart at once.
 
 /// Refuses an element with a coordinate out of the limits of a ring's calls.
 pub(super) fn admit(p: Plane, e: Element) -> Result<Admitted, Refusal>

@@ -1,27 +1,25 @@
 //! Residues, by a basis of the multiples of the modulus.
-ghost use Rattle.std.specs.Prelude.{◌≡◌, ◌/◌, ◌%◌, ◌<◌, true, pos, ◌-ℤ◌, ◌*ℤ◌};
+ghost use Rattle.std.specs.Prelude.{◌≡◌, ◌/◌, ◌%◌, ◌<◌, pos, ◌-ℤ◌, ◌*ℤ◌};
 ghost use Rattle.planar.specs.Basis.{IsBasis};
 ghost use Rattle.planar.specs.Numbering.{number_of};
-ghost use Rattle.planes.specs.Planes.{pair, sector};
 ghost use Rattle.ring.specs.Elements.{at};
 ghost use Rattle.std.specs.Int.{int_div_euclid, int_rem_euclid};
 
 use super::basis::Basis;
-use super::divisor::Divisor;
+use super::divisor::Modulus;
 use super::rows::{Rows, reduced};
 use ring::{Admitted, Element};
 
 impl Basis {
     /// A basis of the multiples of a canonical modulus.
-    pub(super) fn of(modulus: Divisor) -> Basis
-        requires { sector modulus.plane (pair modulus.element.x modulus.element.y) ≡ true }
-        ensures { IsBasis modulus.plane (at modulus.element.x modulus.element.y) result }
+    pub(super) fn of(modulus: Modulus) -> Basis
+        ensures { IsBasis modulus.divisor.plane (at modulus.divisor.element.x modulus.divisor.element.y) result }
     {
         let mut rows = Rows::of(modulus);
         while rows.second.y != 0 {
             rows = rows.step();
         }
-        let norm = modulus.norm;
+        let norm = modulus.divisor.norm;
         Basis {
             step: rows.first.x,
             content: rows.first.y,

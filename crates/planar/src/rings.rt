@@ -45,6 +45,7 @@ impl HasPlane for HexagonalPlane {
     }
 }
 
+// Each call is one function of the plane as a value: proofs go by cases on it, which a type parameter has not.
 impl<P: HasPlane> Ring for PlaneRing<P> {
     ghost meaning = { plane P.plane };
 

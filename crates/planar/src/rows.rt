@@ -1,10 +1,9 @@
 //! Euclid's algorithm on the second coordinates of two multiples of a modulus.
-ghost use Rattle.std.specs.Prelude.{◌≡◌, ◌*◌, ◌^◌, ◌<◌, ◌≤◌, true, pos, ◌-ℤ◌, ◌*ℤ◌, unsigned_abs};
-ghost use Rattle.planes.specs.Planes.{pair, sector};
+ghost use Rattle.std.specs.Prelude.{◌≡◌, ◌*◌, ◌^◌, ◌<◌, ◌≤◌, pos, ◌-ℤ◌, ◌*ℤ◌, unsigned_abs};
 ghost use Rattle.std.specs.Int.{int_rem_euclid};
 
 use super::division::wide_times;
-use super::divisor::Divisor;
+use super::divisor::Modulus;
 use planes::Plane;
 
 /// The remainder of x − k·y, which is not negative.
@@ -30,9 +29,10 @@ pub(super) struct Row {
 }
 
 /// Two multiples of a modulus, whose second coordinates have the modulus's content as their greatest common divisor.
+// That they are, `AreRows`, is no ghost field: it names the factors, and such a field may hold no more than a fact.
 #[derive(Clone, Copy)]
 pub(super) struct Rows {
-    pub(super) modulus: Divisor,
+    pub(super) modulus: Modulus,
     pub(super) first: Row,
     pub(super) second: Row,
 }
@@ -41,18 +41,17 @@ impl Rows {
     ghost use Rattle.planar.specs.Rows.{AreRows};
 
     /// The modulus itself, and θ times it.
-    pub(super) fn of(modulus: Divisor) -> Rows
-        requires { sector modulus.plane (pair modulus.element.x modulus.element.y) ≡ true }
+    pub(super) fn of(modulus: Modulus) -> Rows
         ensures modulus { result.modulus ≡ modulus }
         ensures are { AreRows result }
     {
-        let m = modulus.element;
+        let m = modulus.divisor.element;
         let first = Row {
             x: m.x,
             y: m.y.unsigned_abs(),
         };
         let x = -m.y;
-        match modulus.plane {
+        match modulus.divisor.plane {
             Plane::Square => Rows {
                 modulus,
                 first,
@@ -83,7 +82,7 @@ impl Rows {
         let (first, second) = (self.first, self.second);
         let times = first.y / second.y;
         let rest = Row {
-            x: reduced(first.x, times as i64, second.x, self.modulus.norm),
+            x: reduced(first.x, times as i64, second.x, self.modulus.divisor.norm),
             y: first.y % second.y,
         };
         Rows {

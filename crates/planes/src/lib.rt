@@ -21,6 +21,7 @@ pub enum Plane {
 
 impl Plane {
     /// The coordinates of the plane's ring: θ² = −1, or θ² = −1 − θ.
+    // A property of a plane and no conversion: the coordinates do not stand for it.
     pub fn axes(self) -> Coordinates
         ensures { result ≡ axes self }
     {

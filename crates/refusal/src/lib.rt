@@ -73,7 +73,7 @@ impl Cause {
 #[derive(Clone, Copy, PartialEq, Eq, Debug)]
 pub struct Refusal {
     pub cause: Cause,
-    // A number in which 0 stands for none, and no `Option`: so it is written, in every report and archive.
+    // 0 for none, as docs/refusals.md fixes it: an `Option` would be turned into that number by each that reports it.
     pub place: u64,
 }
 

@@ -46,6 +46,9 @@ module _ (a b : ℤ) (m n : ℕ) (p : nat_abs a ≤ m) (q : nat_abs b ≤ n) (sm
 
 -- the product of two coordinates within the limits of a ring's calls
 module _ (a b : ℤ) (p : nat_abs a ≤ 2 ^ 30) (q : nat_abs b ≤ 2 ^ 30) where
+  pub coordinates_fit : SFits w64 (to_z w64 (of_z w64 a) *ℤ to_z w64 (of_z w64 b))
+  coordinates_fit = product_fits a b (2 ^ 30) (2 ^ 30) p q (lit≤ tt) (lit≤ tt) (lit≤ tt)
+
   pub coordinates_product : to_z w64 (of_z w64 (to_z w64 (of_z w64 a) *ℤ to_z w64 (of_z w64 b))) ≡ a *ℤ b
   coordinates_product = product_is a b (2 ^ 30) (2 ^ 30) p q (lit≤ tt) (lit≤ tt) (lit≤ tt)
 

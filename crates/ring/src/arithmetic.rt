@@ -37,7 +37,7 @@ impl Coordinates {
         ensures { result ≡ element self ((ops self).mul (value self (at a.x a.y)) (value self (at b.x b.y))) }
     {
         match self {
-            Coordinates::One => Element::from(a.products(b).xx),
+            Coordinates::One => Element::from(a.x * b.x),
             Coordinates::Two(s, t) => product_two(s, t, a, b),
         }
     }

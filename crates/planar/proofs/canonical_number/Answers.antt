@@ -13,13 +13,15 @@ returns-then-not-in_sector c =
     let ok = passes (one_check (plane p) a) _ _ (sym c.in_ok-admit.ensures.check) in
     ap Err c.into.ensures ∙ sym (ok ∙ ⊎_elim (λ f. number_outside p a (sym c.in_sector.ensures ∙ f)) (λ g. number_large p a (subst (λ (k : ℕ). 64 < k) n g.1)) c.then-not-in_sector.either)
 
-pub index_of-requires : goal.index_of-requires
-index_of-requires c =
-    let s = sym c.if-not-in_sector.ensures in
+pub index_of-requires-clause-x_high : goal.index_of-requires-clause-x_high
+index_of-requires-clause-x_high c =
     let n = c.norm_of-norm.ensures.value ∙ ap (norm c.args.p) c.in_ok-admit.ensures.same in
-    let b = subst (λ (k : ℕ). k ≤ 64) n c.if-norm-gt64.false in
-    let z = sector_near c.args.p (pair c.args.a.x c.args.a.y) s b in
-    record { x_low = z.x_low; x_high = z.x_high; y_low = z.y_low; y_high = z.y_high }
+    (sector_near c.args.p (pair c.args.a.x c.args.a.y) (sym c.if-not-in_sector.ensures) (subst (λ (k : ℕ). k ≤ 64) n c.if-norm-gt64.false)).x_high
+
+pub index_of-requires-clause-y_high : goal.index_of-requires-clause-y_high
+index_of-requires-clause-y_high c =
+    let n = c.norm_of-norm.ensures.value ∙ ap (norm c.args.p) c.in_ok-admit.ensures.same in
+    (sector_near c.args.p (pair c.args.a.x c.args.a.y) (sym c.if-not-in_sector.ensures) (subst (λ (k : ℕ). k ≤ 64) n c.if-norm-gt64.false)).y_high
 
 pub count_before-requires : goal.count_before-requires
 count_before-requires c =

@@ -10,17 +10,17 @@ use Rattle.planar.specs.Division.{Divided}
 use Rattle.planar.proofs.Admission.{divided, divisor_norm, given}
 use Rattle.planar.proofs.divide.Goals as goal
 
-pub returns-in-None : goal.returns-in-None
-returns-in-None c =
+pub returns-in_default : goal.returns-in_default
+returns-in_default c =
     let m = plane c.args.p in
     let a = c.args.a in
     let b = c.args.b in
     let two = passes_both (one_check m a) (one_check m b) c.in_ok-a.ensures.check c.in_ok-b.ensures.check in
-    let zero = divisor_none c.args.p b (ap (norm c.args.p) (sym c.in_ok-b.ensures.same) ∙ c.in-None.ensures.none.0 refl) in
+    let zero = divisor_none c.args.p b (ap (norm c.args.p) (sym c.in_ok-b.ensures.same) ∙ c.in_default.ensures.none.0 refl) in
     subst (λ (f : Refusal). DivisionAnswer m a b (Err f)) (sym c.into.ensures) (refuses (then (two_check m a b) (divisor_check m b)) _ _ (passes (two_check m a b) tt (divisor_check m b) two ∙ zero))
 
-pub returns-in-Some : goal.returns-in-Some
-returns-in-Some c =
+pub returns : goal.returns
+returns c =
     let p = c.args.p in
     let m = plane p in
     let a = c.args.a in

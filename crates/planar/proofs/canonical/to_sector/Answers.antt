@@ -1,18 +1,7 @@
 use Rattle.std.proofs.Common.{sym, ap, ◌∙◌, arith, below_more}
 use Rattle.planes.specs.Planes.{pair, sector}
-use Rattle.ring.specs.declared.elements.Element.{Element}
 use Rattle.planar.proofs.Turns.{doubled, low, turned_after, turned_now, turns_more}
 use Rattle.planar.proofs.canonical.to_sector.Goals as goal
-
-pub loop-k-init : goal.loop-k-init
-loop-k-init c =
-    let e = c.from-turned.ensures in
-    record {
-      turned = ap (λ (i : Element). pair i.x i.y) e;
-      x_bound = rw e c.args.e.x_bound;
-      y_bound = rw e c.args.e.y_bound;
-      outside = λ k h. absurd (omega (arith, h));
-    }
 
 pub turn_of-turned-requires : goal.turn_of-turned-requires
 turn_of-turned-requires c =

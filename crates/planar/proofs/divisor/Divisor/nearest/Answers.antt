@@ -1,9 +1,18 @@
-use Rattle.std.proofs.Common.{◌≡◌, ◌<◌, ℤ, pos, nat_abs, ◌∙◌, subst, ap₂, arith, w64}
-use Rattle.std.proofs.lemmas.Int.{to_z_pos}
+use Rattle.std.proofs.Common.{◌≡◌, ◌<◌, ◌≤◌, ℤ, pos, ◌+ℤ◌, nat_abs, ◌∙◌, subst, ap₂, arith, w64}
+use Rattle.std.proofs.lemmas.Int.{ints, to_z_pos}
 use Rattle.std.specs.Int.{int_div_euclid, int_rem_euclid}
-use Rattle.ring.proofs.Limits.{back}
-use Rattle.planar.proofs.Rounding.{next, past_half, rounded_bound, rounds_down, rounds_up, this, up_to_half}
+use Rattle.ring.proofs.Limits.{back, fits}
+use Rattle.planar.proofs.Rounding.{next, past_half, quotient_bound, rounded_bound, rounds_down, rounds_up, this, up_to_half}
 use Rattle.planar.proofs.divisor.Divisor.nearest.Goals as goal
+
+pub overflow_add-result : goal.overflow_add-result
+overflow_add-result c =
+    let z = c.args.z in
+    let n = c.args.self.norm in
+    let q = c.div_euclid-below.result in
+    let e : q ≡ int_div_euclid z (pos n) = c.div_euclid-below.ensures ∙ ap₂ int_div_euclid (back z (omega arith)) (to_z_pos w64 n (omega arith)) in
+    let b : nat_abs q ≤ nat_abs z = rw e (quotient_bound z n) in
+    rw (back q (omega (arith, b))) (fits (q +ℤ pos 1) (omega (arith, ints, b)))
 
 pub returns-then-rest-n : goal.returns-then-rest-n
 returns-then-rest-n c =

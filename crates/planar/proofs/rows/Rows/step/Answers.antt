@@ -8,7 +8,7 @@ use Rattle.planar.proofs.rows.Rows.step.Goals as goal
 
 pub returns-clause-are : goal.returns-clause-are
 returns-clause-are c =
-    let d = c.args.self.modulus in
+    let d = c.args.self.modulus.divisor in
     let row = c.args.self.first in
     let next = c.args.self.second in
     let r = c.reduced.result in

@@ -1,5 +1,17 @@
-use Rattle.ring.proofs.Limits.{coordinates_bound, coordinates_product}
+use Rattle.ring.proofs.Limits.{coordinates_bound, coordinates_fit, coordinates_product}
 use Rattle.ring.proofs.admitted.Admitted.products.Goals as goal
+
+pub overflow_mul-result : goal.overflow_mul-result
+overflow_mul-result c = coordinates_fit c.args.self.x c.args.other.x c.args.self.x_bound c.args.other.x_bound
+
+pub overflow_mul-result-2 : goal.overflow_mul-result-2
+overflow_mul-result-2 c = coordinates_fit c.args.self.x c.args.other.y c.args.self.x_bound c.args.other.y_bound
+
+pub overflow_mul-result-3 : goal.overflow_mul-result-3
+overflow_mul-result-3 c = coordinates_fit c.args.self.y c.args.other.x c.args.self.y_bound c.args.other.x_bound
+
+pub overflow_mul-result-4 : goal.overflow_mul-result-4
+overflow_mul-result-4 c = coordinates_fit c.args.self.y c.args.other.y c.args.self.y_bound c.args.other.y_bound
 
 pub invariant_of-result : goal.invariant_of-result
 invariant_of-result c =

@@ -1,19 +1,14 @@
 use Rattle.std.proofs.Common.{sym, ◌∙◌, subst, ap₂, arith}
-use Rattle.std.proofs.lemmas.Int.{to_z-of_z}
 use Rattle.ring.specs.declared.elements.Coordinates.TheVariants.{Two}
 use Rattle.ring.specs.Elements.{Mild, at}
-use Rattle.ring.proofs.Limits.{back, product_at, product_one}
+use Rattle.ring.proofs.Limits.{back, coordinates_fit, coordinates_product, product_at, product_one}
 use Rattle.ring.proofs.elements.Coordinates.product.Goals as goal
 
-pub returns-in-One : goal.returns-in-One
-returns-in-One c = c.from.ensures ∙ product_one c.args.self (at c.args.a.x c.args.a.y) (at c.args.b.x c.args.b.y) c.in-One.is _ (grind (arith, to_z-of_z))
+pub overflow_mul-a : goal.overflow_mul-a
+overflow_mul-a c = coordinates_fit c.args.a.x c.args.b.x c.args.a.x_bound c.args.b.x_bound
 
-pub product_two-requires : goal.product_two-requires
-product_two-requires c =
-    let mild : Mild (Two c.in-Two.s c.in-Two.t) = subst Mild c.in-Two.is c.requires in
-    let s = back c.in-Two.s (omega arith) in
-    let t = back c.in-Two.t (omega arith) in
-    rw (s, t) (record { s_small = mild.0; t_small = mild.1 })
+pub returns-in-One : goal.returns-in-One
+returns-in-One c = c.from.ensures ∙ product_one c.args.self (at c.args.a.x c.args.a.y) (at c.args.b.x c.args.b.y) c.in-One.is _ (coordinates_product c.args.a.x c.args.b.x c.args.a.x_bound c.args.b.x_bound)
 
 pub returns-in-Two : goal.returns-in-Two
 returns-in-Two c =

@@ -3,7 +3,7 @@ use Rattle.planes.specs.Planes.{pair, sector}
 use Rattle.planes.proofs.Checks.{modulus_inside, modulus_outside}
 use Rattle.ring.specs.declared.elements.Element.{Element}
 use Rattle.ring.specs.Elements.{at}
-use Rattle.planar.proofs.divisor.Divisor.modulus.Goals as goal
+use Rattle.planar.proofs.divisor.Modulus.of.Goals as goal
 
 pub returns-then-not-in_sector-clause-check : goal.returns-then-not-in_sector-clause-check
 returns-then-not-in_sector-clause-check c =
