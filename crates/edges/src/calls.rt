@@ -5,7 +5,7 @@ use ring::{Coordinates, Division, Element, Ring};
 use std::fmt;
 
 /// An element as the tables write it and a line shows it.
-// A type of its own, since `Display` of another crate's `Element` cannot be written here.
+// A type of its own: the tables need a short form, and texts show an element in another way.
 #[derive(Clone, Copy)]
 pub struct Point(pub i64, pub i64);
 

@@ -31,48 +31,62 @@ fn show<A: Display + Drop>(
     }
 }
 
-fn show_calls<R: Ring>(rt: &impl Print, name: &str, ring: &R, calls: &[Call]) -> io::Result<()> {
-    for &call in calls {
-        show(rt, name, call, ask(ring, call))?;
-    }
-    Ok(())
+/// A ring, and the name that its lines begin with.
+#[derive(Clone, Copy)]
+struct Named<'a, R> {
+    name: &'a str,
+    ring: &'a R,
 }
 
-fn show_point<R: Ring>(rt: &impl Print, name: &str, ring: &R, a: Point) -> io::Result<()> {
-    let calls = [
-        Call::Norm(a),
-        Call::IsUnit(a),
-        Call::CanonicalAssociate(a),
-        Call::CanonicalNumber(a),
-    ];
-    show_calls(rt, name, ring, &calls)
-}
+impl<'a, R: Ring> Named<'a, R> {
+    fn new(name: &'a str, ring: &'a R) -> Named<'a, R> {
+        Named { name, ring }
+    }
 
-fn show_table<R: Ring>(rt: &impl Print, name: &str, ring: &R, table: Table) -> io::Result<()> {
-    for &a in table.points {
-        show_point(rt, name, ring, a)?;
+    fn show_calls(&self, rt: &impl Print, calls: &[Call]) -> io::Result<()> {
+        for &call in calls {
+            show(rt, self.name, call, ask(self.ring, call))?;
+        }
+        Ok(())
     }
-    for calls in [
-        table.arithmetic,
-        table.residues,
-        table.canonical,
-        table.ideals,
-    ] {
-        show_calls(rt, name, ring, calls)?;
-    }
-    Ok(())
-}
 
-fn show_ring<R: Ring>(rt: &impl Print, name: &str, ring: &R, tables: &[Table]) -> io::Result<()> {
-    for &table in tables {
-        show_table(rt, name, ring, table)?;
+    fn show_point(&self, rt: &impl Print, a: Point) -> io::Result<()> {
+        let calls = [
+            Call::Norm(a),
+            Call::IsUnit(a),
+            Call::CanonicalAssociate(a),
+            Call::CanonicalNumber(a),
+        ];
+        self.show_calls(rt, &calls)
     }
-    show(rt, name, "every canonical", trips::canonicals(ring))?;
-    show(rt, name, "every residue", trips::residues(ring))
+
+    fn show_table(&self, rt: &impl Print, table: Table) -> io::Result<()> {
+        for &a in table.points {
+            self.show_point(rt, a)?;
+        }
+        for calls in [
+            table.arithmetic,
+            table.residues,
+            table.canonical,
+            table.ideals,
+        ] {
+            self.show_calls(rt, calls)?;
+        }
+        Ok(())
+    }
+
+    fn show_all(&self, rt: &impl Print, tables: &[Table]) -> io::Result<()> {
+        let Named { name, ring } = *self;
+        for &table in tables {
+            self.show_table(rt, table)?;
+        }
+        show(rt, name, "every canonical", trips::canonicals(ring))?;
+        show(rt, name, "every residue", trips::residues(ring))
+    }
 }
 
 fn main(rt: HostRuntime) -> io::Result<()> {
-    show_ring(&rt, "Z", &Integers, &[EVERY, LINE])?;
-    show_ring(&rt, "G", &GAUSSIAN, &[EVERY, PLANE, SQUARE])?;
-    show_ring(&rt, "E", &EISENSTEIN, &[EVERY, PLANE, HEXAGONAL])
+    Named::new("Z", &Integers).show_all(&rt, &[EVERY, LINE])?;
+    Named::new("G", &GAUSSIAN).show_all(&rt, &[EVERY, PLANE, SQUARE])?;
+    Named::new("E", &EISENSTEIN).show_all(&rt, &[EVERY, PLANE, HEXAGONAL])
 }

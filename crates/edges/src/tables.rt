@@ -19,6 +19,9 @@ const REACH: i64 = 1 << 30;
 /// The first that it does not.
 const PAST: i64 = REACH + 1;
 
+/// A modulus with one row of residues in either plane.
+const LARGE: Point = Point(REACH, REACH - 1);
+
 /// Cases for one ring or more.
 #[derive(Clone, Copy)]
 pub struct Table {

@@ -11,6 +11,7 @@ const ENOUGH: u64 = 16385;
 fn main(rt: HostRuntime) -> anyhow::Result<()> {
     let mut text = Vec::new(rt.alloc());
     rt.stdin().take(ENOUGH).read_to_end(&mut text)?;
+    // A rule of the project: programs take answers apart by `let .. else`, and all but the report leaves here.
     let answer = file(text.as_slice());
     let Ok(Some(filed)) = answer else {
         match answer {

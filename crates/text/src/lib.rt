@@ -49,7 +49,7 @@ mod tests {
     use ring::Element;
     use std::test::Fail;
 
-    // By the numbers that a report shows, since they never change.
+    // Causes by number: with them the tests hold the numbers of reports fixed.
     fn refuses(text: &[u8], cause: u8, place: u64) -> bool {
         read(text).is_err_and(|refusal| (refusal.cause.number(), refusal.place) == (cause, place))
     }

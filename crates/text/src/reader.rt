@@ -46,7 +46,7 @@ impl<'a> Reader<'a> {
     fn enter(&self, key: &[u8], value: &[u8]) -> Result<State, Cause>
         ensures { result ≡ entered self.now.state key.now value.now }
     {
-        // One match over state and key, a rule of the project: it alone decides which fault a line is.
+        // A rule of the project: what a line has to be is one match over the state and the key.
         match (self.state, key) {
             (State::Ring, b"ring") => Ok(State::Rank {
                 ring: RingName::try_from(value)?,
@@ -99,6 +99,7 @@ impl<'a> Reader<'a> {
     pub(super) fn finish(&self) -> Result<Request, Refusal>
         ensures { result ≡ finished self.now.line self.now.state self.now.rest.now }
     {
+        // The same rule at the end of the text.
         match (self.state, self.rest) {
             (State::Done { request }, []) => Ok(request),
             _ => Err(self.refusal(Cause::Line)),

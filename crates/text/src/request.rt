@@ -20,6 +20,7 @@ pub enum RingName {
 
 impl RingName {
     /// What an element's coordinates mean in the ring.
+    // A property of a ring and no conversion: the coordinates do not stand for it.
     pub fn coordinates(self) -> Coordinates
         ensures { result ≡ coordinates_of self }
     {
@@ -94,7 +95,7 @@ impl TryFrom<&[u8]> for Rank {
 }
 
 /// A square matrix by rows, with a variant for each rank.
-#[derive(Clone, Copy)]
+#[derive(Clone, Copy, PartialEq, Eq, Debug)]
 pub enum Matrix {
     One([Element; 1]),
     Two([Element; 4]),
@@ -107,9 +108,9 @@ impl Matrix {
         ensures { result ≡ matrix_answer k rank bytes.now }
     {
         match rank {
-            Rank::One => Ok(Matrix::One(entries(k, bytes)?)),
-            Rank::Two => Ok(Matrix::Two(entries(k, bytes)?)),
-            Rank::Three => Ok(Matrix::Three(entries(k, bytes)?)),
+            Rank::One => entries(k, bytes).map(Matrix::One),
+            Rank::Two => entries(k, bytes).map(Matrix::Two),
+            Rank::Three => entries(k, bytes).map(Matrix::Three),
         }
     }
 
@@ -137,7 +138,7 @@ impl Matrix {
 }
 
 /// A matrix over a ring.
-#[derive(Clone, Copy)]
+#[derive(Clone, Copy, PartialEq, Eq, Debug)]
 pub struct Request {
     pub ring: RingName,
     pub matrix: Matrix,

@@ -6,10 +6,12 @@ use super::parts::cut;
 use refusal::Cause;
 use ring::{Coordinates, Element};
 
+// Functions and no `TryFrom`: what they make are numbers, types of the library, and an element depends on its ring too.
+
 /// The most digits of a number.
 const DIGITS: usize = 15;
 
-// The number that digits write, whatever the first one is.
+// The number that digits write, whatever the first one is. The library's `parse` takes text, which bytes need not be, and a `+`.
 fn digits(bytes: &[u8]) -> Result<u64, Cause>
     requires { length bytes.now ≤ 15 }
     ensures { result ≡ digits_answer bytes.now }
@@ -50,6 +52,7 @@ pub fn coordinate(bytes: &[u8]) -> Result<i64, Cause>
 }
 
 /// An element is `x` in a ring with one coordinate, and `x:y` in a ring with two.
+// Two parameters, here and in reading a matrix: the coordinates say how the bytes are read, and are no part of them.
 pub fn element(k: Coordinates, bytes: &[u8]) -> Result<Element, Cause>
     ensures { result ≡ element_answer k bytes.now }
 {

@@ -1,8 +1,5 @@
 //! Cases for the Eisenstein integers alone.
-use super::{Call, Point, REACH, Table};
-
-/// A modulus with one row of residues.
-const LARGE: Point = Point(REACH, REACH - 1);
+use super::{Call, LARGE, Point, REACH, Table};
 
 const LARGE_NORM: u64 = (1 << 60) - (1 << 30) + 1;
 

@@ -1,8 +1,5 @@
 //! Cases for the Gaussian integers alone.
-use super::{Call, Point, REACH, Table};
-
-/// A modulus with one row of residues.
-const LARGE: Point = Point(REACH, REACH - 1);
+use super::{Call, LARGE, Point, REACH, Table};
 
 const LARGE_NORM: u64 = (1 << 61) - (1 << 31) + 1;
 
