@@ -1,6 +1,6 @@
 //! What `locate` is asked, and the values that say it.
-ghost use Rattle.std.specs.Prelude.{◌≡◌, Some};
-ghost use Rattle.text.specs.Requests.{coordinates_of, elements, entries_of, matrix_answer, number_of, rank_answer, rank_of, ring_answer};
+ghost use Rattle.std.specs.Prelude.{◌≡◌, ◌<◌, length, Some};
+ghost use Rattle.text.specs.Requests.{coordinates_of, elements, entries_of, matrix_answer, number_of, rank_answer, rank_of, ring_answer, size};
 ghost use Rattle.text.specs.Written.{ring_written};
 
 use super::parts::cut;
@@ -127,7 +127,9 @@ impl Matrix {
 
     /// The entries by rows.
     pub fn entries(&self) -> &[Element]
-        ensures { result.now ≡ entries_of self.now }
+        ensures all { result.now ≡ entries_of self.now }
+        ensures count { length result.now ≡ size (rank_of self.now) }
+        ensures some { 0 < length result.now }
     {
         match self {
             Matrix::One(entries) => entries,
