@@ -2,6 +2,7 @@
 ghost use Rattle.planes.specs.Planes.{plane};
 ghost use Rattle.planes.specs.declared.Plane.TheVariants.{Square, Hexagonal};
 ghost use Rattle.planes.proofs.Laws;
+ghost use Rattle.ring.specs.Answers.{DivisionAnswer, ResidueAnswer};
 
 use planes::{HasPlane, Plane};
 use refusal::Refusal;
@@ -45,7 +46,22 @@ impl HasPlane for HexagonalPlane {
     }
 }
 
-// Each call is one function of the plane as a value: proofs go by cases on it, which a type parameter has not.
+// Division in the plane that a type names. Its answer is a relation, and is carried over to that plane here.
+fn divide_named<P: HasPlane>(named: &P, a: Element, b: Element) -> Result<Division, Refusal>
+    ensures { DivisionAnswer (plane P.plane) a b result }
+{
+    super::divide(named.plane(), a, b)
+}
+
+// The same of residues.
+fn residue_named<P: HasPlane>(named: &P, a: Element, m: Element) -> Result<Element, Refusal>
+    ensures { ResidueAnswer (plane P.plane) a m result }
+{
+    super::residue(named.plane(), a, m)
+}
+
+// Each call is one function of the plane as a value, two of them by way of the functions above: proofs go by cases on the
+// plane, which a type parameter has not.
 impl<P: HasPlane> Ring for PlaneRing<P> {
     ghost meaning = { plane P.plane };
 
@@ -64,11 +80,11 @@ impl<P: HasPlane> Ring for PlaneRing<P> {
     }
 
     fn divide(&self, a: Element, b: Element) -> Result<Division, Refusal> {
-        super::divide(self.0.plane(), a, b)
+        divide_named(&self.0, a, b)
     }
 
     fn residue(&self, a: Element, m: Element) -> Result<Element, Refusal> {
-        super::residue(self.0.plane(), a, m)
+        residue_named(&self.0, a, m)
     }
 
     fn canonical_count(&self, norm: u64) -> Result<u64, Refusal> {
